@@ -1,0 +1,7 @@
+mod Columns
+mod Fields
+mod Kept
+mod LineParts
+mod Slots
+mod Writes
+mod Wrong

@@ -1,0 +1,2 @@
+mod Weighing
+mod Rows

@@ -1,0 +1,4 @@
+pub mod Cells
+pub mod Ranges
+pub mod Refused
+pub mod Tables
