@@ -1,15 +1,15 @@
 -- A field, read column by column.
 use Prim.Native.Nat.{ℕ, zero, suc, _+_, _-_, _*_, _/_, _%_, _^_, _<_, _≤_}
-use lib.ListN.{length, take, drop, getD}
+use lib.ListN.{length, take, getD}
 use mathlib.Core.List.{List, [], _∷_, _++_}
 use mathlib.Core.Path.{_≡_, refl, sym, _∙_, ap, subst}
 use native.Mathlib.Nat.{pow-suc, add-zero, add-suc}
 use native.Mathlib.Numerals.{add-one}
 use native.Mathlib.Omega.{arith}
-use Rattle.std.proofs.shelf.Lists.{take-more, length-push, take-append-le, take-all, same-from-push}
+use Rattle.std.proofs.shelf.Lists.{take-more, take-append-le, take-all, same-from-push}
 use Rattle.std.specs.declared.option.Option.the-variants.{Some, None}
-use Rattle.printed.specs.Fields.{figure, leading, justified, field, Room, Field, FieldShape, NumberShape, BlankShape, WrongAt}
-use Rattle.printed.proofs.Columns.{ten-pos, length-leading, length-justified, figure-zero, figure-more, same-figure, same-leading, tenth-below, take-leading, more-leading}
+use Rattle.printed.specs.Fields.{figure, leading, justified, field, Field, FieldShape, NumberShape, BlankShape, WrongAt}
+use Rattle.printed.proofs.Columns.{ten-pos, length-leading, length-justified, same-leading, tenth-below, take-leading, more-leading}
 
 -- the front of a field, as any right one has it
 pub front-from-shape : (i j : ℕ) (ys : List ℕ) → FieldShape (suc (i + j)) ys → (n : ℕ) × (n < 10 ^ i) × (take i ys ≡ leading i n)

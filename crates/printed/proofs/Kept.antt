@@ -1,8 +1,8 @@
 -- The text of a store, inspected, read and written.
-use Prim.Native.Nat.{ℕ, _+_, _-_, _*_, _%_, _^_, _<_, _≤_}
+use Prim.Native.Nat.{ℕ, _+_, _*_, _%_, _<_, _≤_}
 use lib.Dec.{eqb, leb}
 use lib.ListN.{length, take, drop}
-use mathlib.Core.Bool.{true, false, cond, _&&_}
+use mathlib.Core.Bool.{true, cond}
 use mathlib.Core.List.{List}
 use mathlib.Core.Logic.{inl, inr}
 use mathlib.Core.Path.{_≡_, refl, sym, _∙_, ap, subst}
@@ -14,7 +14,7 @@ use Rattle.std.specs.declared.option.Option.the-variants.{Some, None}
 use Rattle.std.specs.declared.result.Result.the-variants.{Ok, Err}
 use Rattle.store.specs.declared.content.Content.{Content}
 use Rattle.store.specs.declared.content.Refusal.the-variants.{NoSuchCell}
-use Rattle.store.specs.Cells.{Sound, sound, absent, written, in-row}
+use Rattle.store.specs.Cells.{Sound, sound, absent, written}
 use Rattle.store.specs.Ranges.{is-cell, index, fits, fits-number, fits-stamp}
 use Rattle.store.proofs.Rows.{cell-bounds, index-below, index-known, in-row-written, in-row-sound, in-row-absent, in-row-none-sound}
 use Rattle.printed.specs.declared.fault.LineFault.{LineFault}
@@ -22,7 +22,7 @@ use Rattle.printed.specs.declared.fault.LineFault.the-variants.{Field, Blank, 
 use Rattle.printed.specs.declared.fault.StoreFault.the-variants.{Line}
 use Rattle.printed.specs.Fields.{WrongAt}
 use Rattle.printed.specs.Lines.{line, value, Roomy, LineShape}
-use Rattle.printed.specs.Texts.{slot, with-line, text-cells, Shown, Printed, Shows}
+use Rattle.printed.specs.Texts.{slot, with-line, text-cells, Printed, Shows}
 use Rattle.printed.specs.Faults.{ShapeWrong, LineWrong, TextWrong, fault-column}
 use Rattle.printed.proofs.Slots.{length-with-line, slot-same, slot-other, value-line}
 

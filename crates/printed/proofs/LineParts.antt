@@ -1,5 +1,5 @@
 -- A line by its parts: how a fault of a part is one of the line.
-use Prim.Native.Nat.{ℕ, _+_, _-_, _*_, _/_, _%_, _^_, _<_, _≤_}
+use Prim.Native.Nat.{ℕ, _+_, _%_, _^_, _<_}
 use lib.ListN.{length, take, drop, getD}
 use mathlib.Core.List.{List, [], _∷_, _++_}
 use mathlib.Core.Path.{_≡_, refl, sym, _∙_, ap, subst}
@@ -38,10 +38,6 @@ wrong-no-stamp xs c l w =
 -- ---- a line by its parts
 same-justified : (m n : ℕ) → m < 10 ^ 8 → n < 10 ^ 8 → justified 8 m ≡ justified 8 n → m ≡ n
 same-justified m n hm hn e = sym (amount-justified 7 m hm) ∙ (ap amount e ∙ amount-justified 7 n hn)
-
-first-field : Option Content → Option ℕ
-first-field None = None
-first-field (Some c) = Some (c .number)
 
 -- a line with a first field
 abbrev with-first : Option ℕ → Option Content

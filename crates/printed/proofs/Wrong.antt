@@ -1,11 +1,11 @@
 -- Where a text of a given shape goes wrong.
-use Prim.Native.Nat.{ℕ, _+_, _-_, _<_, _≤_}
-use lib.ListN.{length, take, drop, getD}
+use Prim.Native.Nat.{ℕ, _+_, _-_, _≤_}
+use lib.ListN.{length, take, drop}
 use lib.Seq.{take-add}
 use mathlib.Core.List.{List, [], _∷_, _++_}
-use mathlib.Core.Path.{_≡_, refl, sym, _∙_, ap, subst}
+use mathlib.Core.Path.{_≡_, refl, sym, _∙_, ap}
 use native.Mathlib.Omega.{arith}
-use Rattle.std.proofs.shelf.Lists.{take-take, take-at, drop-at, drop-take, length-take, length-drop, length-take-le}
+use Rattle.std.proofs.shelf.Lists.{take-take, take-at, drop-at, drop-take, length-drop, length-take-le}
 use Rattle.printed.specs.Fields.{WrongAt}
 
 -- the same texts in other words

@@ -1,2 +1,3 @@
 pub mod Houses
 pub mod Judged
+pub mod Leader

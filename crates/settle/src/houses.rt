@@ -1,5 +1,4 @@
 //! What the houses have in the store.
-ghost use Prim.Native.Nat.{ℕ};
 ghost use lib.Chars.{codes};
 ghost use mathlib.Core.Bool.{cond};
 ghost use mathlib.Core.Path.{_≡_};

@@ -1,15 +1,21 @@
 //! Five houses propose readings of one headword, in a printed store.
 mod houses;
+mod leader;
 
 use houses::ask_rules;
 use houses::best_offer;
 use houses::estimate_of;
 use houses::proposers;
 use houses::word;
+use leader::kind_word;
+use leader::lead_round;
+use leader::part_word;
 use printed::inspect;
 use printed::printed_store::PrintedStore;
 use printed::printed_store::PrintedStoreStore;
 use printed::printing::blank_text;
+use process::memory::Action;
+use process::message::Message;
 use std::io;
 use std::io::Write;
 use store::Store;
@@ -72,6 +78,35 @@ fn main(rt: LibcRuntime) -> io::Result<()> {
             rt,
             "with a zero in the first column: {answer} {line} {column}"
         )?;
+    }
+    let Some(turns) = lead_round(407, 512) else {
+        return Ok(());
+    };
+    for (i, turn) in turns.iter().enumerate() {
+        let what = part_word(i);
+        println!(rt, "process 2 of three {what}:")?;
+        for action in turn.plan.actions() {
+            match *action {
+                Action::Write(cell, Content { number, stamp }) => {
+                    println!(rt, "  it writes {number} {stamp} into cell {cell}")?;
+                }
+                Action::Send(
+                    Message {
+                        addressee,
+                        kind,
+                        round,
+                        reading,
+                        ..
+                    },
+                ) => {
+                    let kind = kind_word(kind);
+                    println!(
+                        rt,
+                        "  it sends {kind} {round} {reading} to process {addressee}"
+                    )?;
+                }
+            }
+        }
     }
     Ok(())
 }

@@ -1,6 +1,6 @@
 -- A write to a store that keeps its cells in one row.
-use mathlib.Core.Path.{_≡_, refl, sym, ap, subst, _∙_, fun-ext}
-use mathlib.Core.Bool.{Bool, true, false, cond, _&&_}
+use mathlib.Core.Path.{_≡_, refl, sym, subst, _∙_, fun-ext}
+use mathlib.Core.Bool.{true, cond, _&&_}
 use mathlib.Core.Logic.{⊎-elim}
 use Prim.Native.Nat.{ℕ, _<_, _≤_}
 use native.Mathlib.Omega.{arith}
@@ -17,7 +17,7 @@ use Rattle.std.proofs.shelf.Lists.{getD-replicate, getD-set-same, getD-set-othe
 use Rattle.std.proofs.shelf.Tests.{cases-bool, eqb-true, leb-true, and-parts, and-from, cond-true, cond-false, cond-both, eq-eqb, both-ways}
 use Rattle.store.specs.declared.content.Content.{Content}
 use Rattle.store.specs.Ranges.{is-cell, index, fits}
-use Rattle.store.specs.Cells.{Cells, absent, Sound, sound, put, write-answer, written, in-row}
+use Rattle.store.specs.Cells.{Cells, absent, Sound, put, write-answer, written, in-row}
 
 pub cell-bounds : (p c : ℕ) → is-cell p c ≡ true → (1 ≤ p) × (p ≤ 9) × (1 ≤ c) × (c ≤ 4)
 cell-bounds p c h =

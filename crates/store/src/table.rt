@@ -1,6 +1,5 @@
 //! A store in memory.
-ghost use lib.ListN.{getD, length};
-ghost use mathlib.Core.Path.{_≡_};
+ghost use lib.ListN.{getD};
 ghost use Rattle.std.specs.declared.option.Option.the-variants.{None};
 ghost use Rattle.store.specs.Cells.{Sound, in-row};
 

@@ -1,3 +1,4 @@
+pub mod Bests
 mod First
 mod Places
 mod Shift

@@ -1,10 +1,9 @@
 use Prim.Native.Nat.{ℕ, zero, suc, _-_, _<_, _≤_}
 use lib.ListN.{length, take, drop, getD}
-use mathlib.Core.List.{List, [], _++_}
+use mathlib.Core.List.{List, []}
 use mathlib.Core.Path.{_≡_, refl, sym, _∙_, ap}
 use native.Mathlib.Numerals.{sub-one}
 use native.Mathlib.Omega.{arith}
-use Rattle.std.specs.Finite.{nth}
 use Rattle.std.specs.Holes.{removed}
 use Rattle.std.specs.declared.option.Option.the-variants.{Some, None}
 use Rattle.std.proofs.shelf.Lists.{length-take, length-take-le, getD-take, take-all, drop-all, append-nil}

@@ -10,4 +10,4 @@ prefers-estimate x y = ltb (y .stamp) (x .stamp) || (eqb (x .stamp) (y .stamp) &
 
 -- a smaller round is preferred
 abbrev pub prefers-round : Round → Round → Bool
-prefers-round x y = leb (x .0) (y .0)
+prefers-round x y = leb (x .number) (y .number)

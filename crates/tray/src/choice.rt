@@ -1,5 +1,6 @@
 //! The best element of a slice.
-ghost use Rattle.tray.specs.Best.{Best, Chosen};
+ghost use mathlib.Core.Path.{_≡_};
+ghost use Rattle.tray.specs.Best.{Best, best-of, Chosen};
 ghost use Rattle.tray.specs.Items.{items};
 use super::Tray;
 use super::preference::Preference;
@@ -23,7 +24,8 @@ pub fn best<T: Preference>(items: &[T]) -> Option<usize>
 
 // The best element of a tray.
 pub fn best_of_tray<T: Preference + Copy>(tray: &Tray<'_, T>) -> Option<T>
-    ensures { λ r. ⌜ Chosen (T·Preference .prefers) (items (now (tray .entry))) r ⌝ }
+    ensures chosen { λ r. ⌜ Chosen (T·Preference .prefers) (items (now (tray .entry))) r ⌝ }
+    ensures value { λ r. ⌜ r ≡ best-of (T·Preference .prefers) (items (now (tray .entry))) ⌝ }
 {
     let place = best(tray.as_slice())?;
     tray.at(place)

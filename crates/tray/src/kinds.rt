@@ -12,7 +12,9 @@ pub struct Estimate {
 
 // The number of a round.
 #[derive(Clone, Copy, PartialEq, Eq, Debug)]
-pub struct Round(pub u32);
+pub struct Round {
+    pub number: u32,
+}
 
 // A greater stamp is preferred, and at equal stamps a lower sender.
 pub impl Preference for Estimate as EstimatePreference {
@@ -28,6 +30,6 @@ pub impl Preference for Round as RoundPreference {
     ghost prefers = { prefers-round };
 
     fn at_least(&self, other: &Round) -> bool {
-        self.0 <= other.0
+        self.number <= other.number
     }
 }

@@ -90,6 +90,9 @@ mod tests {
                 stamp: 3,
             }),
         )?;
-        check_eq(best(&[Round(6), Round(4), Round(9), Round(4)]), Some(2))
+        let mut rounds = [Round { number: 4 }; 4];
+        rounds[0].number = 6;
+        rounds[2].number = 9;
+        check_eq(best(&rounds), Some(2))
     }
 }

@@ -1,7 +1,5 @@
-use lib.ListN.{length}
-use mathlib.Core.Path.{_≡_, refl, subst}
+use mathlib.Core.Path.{refl, subst}
 use Rattle.std.proofs.shelf.Results.{err-from-errBy}
-use Rattle.std.specs.declared.option.Option.the-variants.{None}
 use Rattle.printed.specs.Fields.{Field}
 use Rattle.printed.proofs.Fields.{wrong-number, blank-number}
 use Rattle.printed.proofs.read_number.Needs as need

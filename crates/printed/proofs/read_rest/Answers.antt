@@ -1,6 +1,5 @@
-use mathlib.Core.Path.{_≡_, refl, sym, subst, _∙_}
 use Rattle.std.proofs.shelf.Results.{err-from-errBy}
-use Rattle.printed.proofs.LineParts.{wrong-stamp, wrong-no-stamp}
+use Rattle.printed.proofs.LineParts.{wrong-stamp}
 use Rattle.printed.proofs.read_rest.Needs as need
 
 pub returns-in-Break-stamp : need.returns-in-Break-stamp

@@ -5,7 +5,7 @@ ghost use mathlib.Core.Bool.{cond};
 ghost use mathlib.Core.Path.{_≡_};
 ghost use Rattle.std.specs.Results.{isOk};
 ghost use Rattle.std.specs.declared.option.Option.the-variants.{Some};
-ghost use Rattle.store.specs.Cells.{read-answer, write-answer, written};
+ghost use Rattle.store.specs.Cells.{write-answer, written};
 ghost use Rattle.store.specs.Ranges.{index};
 ghost use Rattle.printed.specs.Lines.{line};
 ghost use Rattle.printed.specs.Stores.{store-text, store-cells};

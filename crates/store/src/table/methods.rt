@@ -1,4 +1,3 @@
-ghost use lib.ListN.{getD};
 ghost use mathlib.Core.Path.{_≡_};
 ghost use Rattle.store.specs.Cells.{absent};
 ghost use Rattle.store.specs.Tables.{table-cells};

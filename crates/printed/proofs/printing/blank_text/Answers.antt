@@ -1,5 +1,4 @@
 use Prim.Native.Nat.{_+_, _-_, _*_}
-use mathlib.Core.Path.{_∙_}
 use native.Mathlib.Omega.{arith}
 use Rattle.printed.proofs.Kept.{blank-more, blank-printed, blank-absent}
 use Rattle.printed.proofs.Writes.{put-between}

@@ -1,9 +1,7 @@
 use Prim.Native.Nat.{ℕ}
-use borrow.Author.Needs.{needs}
 use lib.ListN.{length, take, getD}
 use mathlib.Core.List.{List, [], _∷_, _++_}
-use mathlib.Core.Path.{_≡_, sym, ap, subst, _∙_}
-use mathlib.Core.Bool.{true}
+use mathlib.Core.Path.{_≡_, sym, ap, _∙_}
 use native.Mathlib.Omega.{arith}
 use Rattle.std.proofs.shelf.Lists.{take-more, take-more-set, take-all, length-set}
 use Rattle.std.proofs.shelf.Tests.{and-from, le-leb}

@@ -1,5 +1,5 @@
 use Prim.Native.Nat.{ℕ}
-use mathlib.Core.Path.{_≡_, sym, _∙_, ap}
+use mathlib.Core.Path.{sym, _∙_, ap}
 use Rattle.std.proofs.shelf.Tests.{cond-true}
 use Rattle.printed.specs.Texts.{Printed, with-line}
 use Rattle.store.specs.Ranges.{index}

@@ -1,0 +1,9 @@
+mod Acts
+mod Bests
+mod Ends
+mod Facts
+mod Grow
+mod Plans
+mod Runs
+mod Settles
+mod Verdicts

@@ -1,0 +1,9 @@
+pub mod Laws
+pub mod Looks
+pub mod Meetings
+pub mod Messages
+pub mod Phases
+pub mod Ranges
+pub mod Rounds
+pub mod Rows
+pub mod Turns
