@@ -117,6 +117,20 @@ module _ (n p : ℕ) (enough : List Bool → Bool) where
   no-estimate Kind.Ack i = refl
   no-estimate Kind.Decide i = refl
 
+  no-new-estimate : (k : Kind) → is-ack k ≡ true → is-new-estimate k ≡ false
+  no-new-estimate Kind.NewRound i = refl
+  no-new-estimate Kind.Estimate i = refl
+  no-new-estimate Kind.NewEstimate i = absurd (false≢true i)
+  no-new-estimate Kind.Ack i = refl
+  no-new-estimate Kind.Decide i = refl
+
+  no-decide : (k : Kind) → is-ack k ≡ true → is-decide k ≡ false
+  no-decide Kind.NewRound i = refl
+  no-decide Kind.Estimate i = refl
+  no-decide Kind.NewEstimate i = refl
+  no-decide Kind.Ack i = refl
+  no-decide Kind.Decide i = absurd (false≢true i)
+
   -- ---- a delivery
   reply-memory : (d : Option Content) (m : Message) (y : Memory) → reply p d m (still y) .memory ≡ y
   reply-memory None m y = refl
@@ -152,11 +166,57 @@ module _ (n p : ℕ) (enough : List Bool → Bool) where
         ])
         (λ k h. inl h)
 
-    pub deliver-again : (d : Option Content) → RepeatedAck m y (deliver n p enough d m (still y) .memory)
-    deliver-again d a there =
+    -- a repeated ACK leaves the acknowledgers
+    again-same : (d : Option Content) → is-ack (m .kind) ≡ true → has (y .acknowledgers) (m .sender - 1) ≡ true → deliver n p enough d m (still y) .memory .acknowledgers ≡ y .acknowledgers
+    again-same d a there =
         delivered d (λ z. z .acknowledgers ≡ y .acknowledgers) refl refl refl
         (λ g e. absurd (both-ways (is-estimate (m .kind)) (no-estimate (m .kind) a) e))
         (λ c i r. settle-acks (remember (join m) (still (hear m y))) (not-gathering (y .phase) c) ∙ joined-again (y .acknowledgers) (m .sender - 1) there) refl
+
+    -- joining again changes no memory
+    join-none : has (y .acknowledgers) (m .sender - 1) ≡ true → remember (join m) (still (hear m y)) ≡ still (hear m y)
+    join-none there = ap (λ (xs : List Bool). still (with-acks xs (hear m y))) (joined-again (y .acknowledgers) (m .sender - 1) there)
+      where
+        with-acks : List Bool → Memory → Memory
+        with-acks xs z = record {
+          phase = z .phase;
+          round = z .round;
+          reading = z .reading;
+          stamp = z .stamp;
+          heard = z .heard;
+          epoch = z .epoch;
+          kept = z .kept;
+          acknowledgers = xs;
+          last = z .last;
+        }
+
+    -- settling while confirming with too few acknowledgers does nothing
+    settle-none : is-confirming (y .phase) ≡ true → enough (y .acknowledgers) ≡ false → settle n p enough (still (hear m y)) ≡ still (hear m y)
+    unfolding settle
+    settle-none c few =
+        ap (confirmed n p enough) (cond-false (is-gathering (y .phase)) _ (still (hear m y)) (not-gathering (y .phase) c))
+        ∙ (cond-true (is-confirming (y .phase)) _ (still (hear m y)) c ∙ cond-false (enough (y .acknowledgers)) _ (still (hear m y)) few)
+
+    again-nothing : (d : Option Content) → is-ack (m .kind) ≡ true → has (y .acknowledgers) (m .sender - 1) ≡ true → enough (y .acknowledgers) ≡ false → is-done (y .phase) ≡ false
+        → deliver n p enough d m (still y) ≡ still (hear m y)
+    unfolding deliver
+    again-nothing d a there few busy =
+        let P : Step → Type 0 = λ u. u ≡ still (hear m y) in
+        cond-false (is-done (y .phase)) _ _ busy
+        ∙ (cond-false (is-decide (m .kind)) _ _ (no-decide (m .kind) a)
+        ∙ cond-both (eqb (m .round) (y .round)) (meet n p enough m (remember (hear m) (still y))) (remember (hear m) (still y)) P
+        (λ _. cond-both (is-gathering (y .phase) && is-estimate (m .kind)) (settle n p enough (remember (keep m) (still (hear m y)))) _ P
+        (λ i. absurd (both-ways (is-estimate (m .kind)) (no-estimate (m .kind) a) (and-parts (is-gathering (y .phase)) (is-estimate (m .kind)) i .1)))
+        (λ _. cond-both (is-confirming (y .phase) && is-ack (m .kind)) (settle n p enough (remember (join m) (still (hear m y)))) _ P
+        (λ i. ap (settle n p enough) (join-none there) ∙ settle-none (and-parts (is-confirming (y .phase)) (is-ack (m .kind)) i .0) few)
+        (λ _. cond-both (is-waiting (y .phase) && is-new-estimate (m .kind) && eqb (m .sender) (coordinator n (y .round))) (accept p m (still (hear m y))) (still (hear m y)) P
+        (λ i. absurd (both-ways (is-new-estimate (m .kind)) (no-new-estimate (m .kind) a)
+        (and-parts (is-waiting (y .phase)) (is-new-estimate (m .kind)) (and-parts (is-waiting (y .phase) && is-new-estimate (m .kind)) (eqb (m .sender) (coordinator n (y .round))) i .0) .1)))
+        (λ _. refl))))
+        (λ _. refl))
+
+    pub deliver-again : (d : Option Content) → RepeatedAck enough m y (deliver n p enough d m (still y))
+    deliver-again d = record { same = again-same d; nothing = again-nothing d }
 
     pub deliver-once : (d : Option Content) → KeptOnce m y (deliver n p enough d m (still y) .memory)
     deliver-once d e there =

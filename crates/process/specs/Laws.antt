@@ -1,6 +1,6 @@
 -- What holds of every step.
 use mathlib.Core.Path.{_≡_}
-use mathlib.Core.Bool.{Bool, true, not, _&&_, _||_}
+use mathlib.Core.Bool.{false, Bool, true, not, _&&_, _||_}
 use mathlib.Core.List.{List, [], _∷_, _++_}
 use Prim.Native.Nat.{ℕ, _≤_, _-_}
 use lib.Dec.{eqb}
@@ -17,9 +17,10 @@ use Rattle.std.specs.declared.result.Result.the-variants.{Ok, Err}
 use mathlib.Core.Logic.{_⊎_}
 use Rattle.quorum.specs.Laws.{has}
 use Rattle.process.specs.declared.turn.NoRound.{NoRound}
-use Rattle.process.specs.Phases.{is-ack, is-estimate, is-gathering, is-new-estimate}
+use Rattle.process.specs.Meetings.{hear}
+use Rattle.process.specs.Phases.{is-ack, is-done, is-estimate, is-gathering, is-new-estimate}
 use Rattle.process.specs.Ranges.{act-fits, every, memory-fits}
-use Rattle.process.specs.Rounds.{Step}
+use Rattle.process.specs.Rounds.{Step, still}
 
 -- a NEWESTIMATE or an ACK of a round tells of a pair with that stamp
 abbrev pub tells-of : Content → Message → Bool
@@ -58,10 +59,11 @@ Gains p m before after =
     → (has (before .acknowledgers) k ≡ true) ⊎ ((is-ack (m .kind) ≡ true) × (m .round ≡ before .round) × (k ≡ m .sender - 1))
     ⊎ ((is-gathering (before .phase) ≡ true) × (k ≡ p - 1))
 
--- an ACK of a process that is an acknowledger already leaves the acknowledgers
-abbrev pub RepeatedAck : Message → Memory → Memory → Type 0
-RepeatedAck m before after =
-    is-ack (m .kind) ≡ true → has (before .acknowledgers) (m .sender - 1) ≡ true → after .acknowledgers ≡ before .acknowledgers
+-- an ACK of a process that is an acknowledger already leaves the acknowledgers, and where they are not enough yet it does nothing: it is only heard of
+pub record RepeatedAck (enough : List Bool → Bool) (m : Message) (before : Memory) (after : Step) : Type 0 where
+  pub same : is-ack (m .kind) ≡ true → has (before .acknowledgers) (m .sender - 1) ≡ true → after .memory .acknowledgers ≡ before .acknowledgers
+  pub nothing : is-ack (m .kind) ≡ true → has (before .acknowledgers) (m .sender - 1) ≡ true → enough (before .acknowledgers) ≡ false
+      → is-done (before .phase) ≡ false → after ≡ still (hear m before)
 
 -- an estimate of a process from which one is kept leaves the kept ones
 abbrev pub KeptOnce : Message → Memory → Memory → Type 0

@@ -568,7 +568,7 @@ pub fn deliver_turn<R: QuorumRule>(
     ensures value { λ r. ⌜ step r ≡ deliver (R·QuorumRule .processes (now (rule .entry))) (letter .message .addressee) (R·QuorumRule .quorum (now (rule .entry))) decision (letter .message) (still memory) ⌝ }
     ensures lawful { λ r. ⌜ (letter .message .addressee ≤ R·QuorumRule .processes (now (rule .entry)) → Lawful ((memory-fits (R·QuorumRule .processes (now (rule .entry))) (letter .message .addressee) memory ≡ true) × (well-formed (R·QuorumRule .processes (now (rule .entry))) (letter .message) ≡ true) × (sound 4 decision ≡ true)) (R·QuorumRule .processes (now (rule .entry))) (letter .message .addressee) 27 (step r)) ⌝ }
     ensures gains { λ r. ⌜ Gains (letter .message .addressee) (letter .message) memory (r .memory) ⌝ }
-    ensures repeated { λ r. ⌜ RepeatedAck (letter .message) memory (r .memory) ⌝ }
+    ensures repeated { λ r. ⌜ RepeatedAck (R·QuorumRule .quorum (now (rule .entry))) (letter .message) memory (step r) ⌝ }
     ensures once { λ r. ⌜ KeptOnce (letter .message) memory (r .memory) ⌝ }
 {
     let mut turn = Turn::start(memory);
