@@ -19,6 +19,7 @@ use Rattle.process.specs.declared.memory.Action.the-variants.{Write, Send}
 use Rattle.tray.specs.declared.kinds.Estimate.{Estimate}
 use Rattle.process.specs.declared.memory.Memory.{Memory}
 use Rattle.process.specs.declared.memory.Phase.{Phase}
+use Rattle.process.specs.Phases.{is-active}
 use Rattle.process.specs.Rounds.{Step, coordinator}
 use Rattle.agreement.specs.Promise.{Holds, Marked}
 
@@ -160,20 +161,12 @@ module _ (R : Rule) where
     pub voters : Voters V r acks
     pub role : Role p f r t
 
-  abbrev pub active : Phase → Bool
-  active Phase.Idle = Bool.false
-  active Phase.Waiting = Bool.true
-  active Phase.Acked = Bool.true
-  active Phase.Gathering = Bool.true
-  active Phase.Confirming = Bool.true
-  active Phase.Done = Bool.false
-
   abbrev pub Lasting : Votes → Cells → List (Option Message) → Type 0
   Lasting V C last = (i : ℕ) (m : Message) → getD last i None ≡ Some m → Good V C m
 
   pub record Fine (V : Votes) (C : Cells) (p : ℕ) (μ : Memory) : Type 0 where
     pub last : Lasting V C (μ .last)
-    pub busy : T (active (μ .phase)) → Active V C p (μ .phase) (μ .round) (μ .reading) (μ .stamp) (μ .kept) (μ .acknowledgers)
+    pub busy : T (is-active (μ .phase)) → Active V C p (μ .phase) (μ .round) (μ .reading) (μ .stamp) (μ .kept) (μ .acknowledgers)
 
   abbrev pub votes-by : ℕ → Votes → ℕ → Content → Votes
   votes-by zero V p x = V

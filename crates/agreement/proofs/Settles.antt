@@ -8,7 +8,7 @@ use mathlib.Core.Path.{_≡_, refl, sym, subst}
 use Prim.Native.Nat.{ℕ, suc, _-_, _≤_, _<_}
 use native.Mathlib.Nat.{le-trans, le-of-eq}
 use native.Mathlib.Omega.{arith}
-use lib.Dec.{T, eqb}
+use lib.Dec.{eqb}
 use lib.ListN.{set, replicate}
 use Rattle.std.proofs.shelf.Tests.{cond-both, eqb-true, eqb-false, cases-lt}
 use Rattle.quorum.specs.Laws.{has}
@@ -19,18 +19,19 @@ use Rattle.process.specs.declared.memory.Memory.{Memory}
 use Rattle.process.specs.declared.memory.Phase.{Phase}
 use Rattle.process.specs.Rounds.{Step, ack, addressed, begin, best-kept, chosen, choose, conclude, confirm, confirmed, decide, enter, entered, estimate, follow, gather, gathered, in-phase, lead, new-estimate, new-round, only, propound, remember, send, senders, settle, to-all, write}
 use Rattle.process.specs.Phases.{is-confirming, is-gathering}
-use Rattle.agreement.proofs.Facts.{Rule, Votes, plus, number-in, Known, Offer, coord, Safe, Chosen, Sound, May-enter, May-vote, Stand, Role, Offers, Voters, active, Lasting, Fine, Run, Goes}
+use Rattle.process.proofs.Stages.{gathering-active, confirming-active}
+use Rattle.agreement.proofs.Facts.{Rule, Votes, plus, number-in, Known, Offer, coord, Safe, Chosen, Sound, May-enter, May-vote, Stand, Role, Offers, Voters, Lasting, Fine, Run, Goes}
 use Rattle.agreement.proofs.Grow.{at-cell, known-grows, offers-grow, lasting-grows}
-use Rattle.agreement.proofs.Bests.{some≢none, false-true}
+use Rattle.agreement.proofs.Bests.{T-true, some≢none, false-true}
 use Rattle.agreement.proofs.Plans.{at-set, at-replicate, suc-less, run-weaker, run-then, noted-good, to-all-runs, to-all-ok}
 use Rattle.agreement.proofs.Bests.{kept-in, Below, kept-above, sender-at}
 
 module _ (R : Rule) (p : ℕ) where
-  gather-role : (f : Phase) (r t : ℕ) → is-gathering f ≡ true → Role R p f r t → (p ≡ coord R r) × (t < r) × T (active R f)
+  gather-role : (f : Phase) (r t : ℕ) → is-gathering f ≡ true → Role R p f r t → (p ≡ coord R r) × (t < r)
   gather-role Phase.Idle r t i h = false-true i
   gather-role Phase.Waiting r t i h = false-true i
   gather-role Phase.Acked r t i h = false-true i
-  gather-role Phase.Gathering r t i h = (h .0, h .1, tt)
+  gather-role Phase.Gathering r t i h = h
   gather-role Phase.Confirming r t i h = false-true i
   gather-role Phase.Done r t i h = false-true i
 
@@ -41,22 +42,6 @@ module _ (R : Rule) (p : ℕ) where
   confirm-role Phase.Gathering r t i h = false-true i
   confirm-role Phase.Confirming r t i h = h
   confirm-role Phase.Done r t i h = false-true i
-
-  gather-active : (f : Phase) → is-gathering f ≡ true → T (active R f)
-  gather-active Phase.Idle i = false-true i
-  gather-active Phase.Waiting i = tt
-  gather-active Phase.Acked i = tt
-  gather-active Phase.Gathering i = tt
-  gather-active Phase.Confirming i = tt
-  gather-active Phase.Done i = false-true i
-
-  confirm-active : (f : Phase) → is-confirming f ≡ true → T (active R f)
-  confirm-active Phase.Idle i = false-true i
-  confirm-active Phase.Waiting i = tt
-  confirm-active Phase.Acked i = tt
-  confirm-active Phase.Gathering i = tt
-  confirm-active Phase.Confirming i = tt
-  confirm-active Phase.Done i = false-true i
 
   -- p alone has voted, or offered, at the place of p; and nobody has
   only-voter : (r w : ℕ) (W : Votes) → 1 ≤ p → W p w r → Voters R W r (only p)
@@ -84,7 +69,7 @@ module _ (R : Rule) (p : ℕ) where
     -- enough acknowledgers: the reading is chosen
     concluded : (μ : Memory) → is-confirming (μ .phase) ≡ true → R .enough (μ .acknowledgers) ≡ true → Fine R V C p μ → Chosen R V (μ .reading)
     concluded μ i q f =
-        let a = f .busy (confirm-active (μ .phase) i) in
+        let a = f .busy (T-true (confirming-active (μ .phase) i)) in
         let ro = confirm-role (μ .phase) (μ .round) (μ .stamp) i (a .role) in
         record {
           stamp = μ .round;
@@ -128,7 +113,7 @@ module _ (R : Rule) (p : ℕ) where
     unfolding Owned
     chosen-may μ b is i q S f =
         let r = μ .round in
-        let a = f .busy (gather-active (μ .phase) i) in
+        let a = f .busy (T-true (gathering-active (μ .phase) i)) in
         let ro = gather-role (μ .phase) r (μ .stamp) i (a .role) in
         let owned : Owned r b = kept-in (Owned r) (μ .kept) (λ k e n. (suc k, a .offers k e n)) b is in
         record {
@@ -170,7 +155,7 @@ module _ (R : Rule) (p : ℕ) where
         let r = s .memory .round in
         to-all-ok R p (λ W D ν. Fine R W D p ν) (R .size) (new-estimate p r e) (write 3 e r (remember (choose p e) s)) S
         (run-then R p _ (s .acts) (Write 3 (record { number = e; stamp = r }) ∷ []) S h (λ W D S′ f.
-        let a = f .busy (gather-active (μ .phase) i) in
+        let a = f .busy (T-true (gathering-active (μ .phase) i)) in
         let ro = gather-role (μ .phase) r (μ .stamp) i (a .role) in
         let may = chosen-may W D μ b is i q S′ f in (
           may,

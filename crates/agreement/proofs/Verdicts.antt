@@ -35,14 +35,15 @@ use Rattle.process.specs.Rounds.{Step, ack, addressed, blank, coordinator, deci
 use Rattle.process.specs.Meetings.{accept, hear, heed, join, keep, learn, deliver, meet, post, reply}
 use Rattle.process.specs.declared.memory.OwnCells.{OwnCells}
 use Rattle.process.specs.declared.turn.NoRound.{NoRound}
-use Rattle.process.specs.Phases.{is-confirming, is-done, is-gathering, is-ack, is-decide, is-estimate, is-new-estimate, is-waiting}
+use Rattle.process.specs.Phases.{is-active, is-confirming, is-done, is-gathering, is-ack, is-decide, is-estimate, is-new-estimate, is-waiting}
 use Rattle.process.specs.Messages.{is-reading, well-formed}
 use denote.Ref.{now}
 use Rattle.agreement.specs.Calls.{State, Verdict, status, member, cut-fits, need, crash-at, is-idle, again-at, own, propose-at, recover-at, early, deliver-at, deliver-it, if-step, look-at, verdict}
 use Rattle.process.specs.Looks.{epoch-of, epochs-fit, trusts-some, next-round, must-leave, note, go-on, look}
 use Rattle.process.proofs.Looks.{next-fits}
 use Rattle.agreement.specs.Promise.{Holds}
-use Rattle.agreement.proofs.Facts.{Rule, Votes, plus, rnd, Offer, coord, Chosen, Good-as, Good, Sound, May-enter, Offers, active, Lasting, Fine, Goes}
+use Rattle.process.proofs.Stages.{waiting-active}
+use Rattle.agreement.proofs.Facts.{Rule, Votes, plus, rnd, Offer, coord, Chosen, Good-as, Good, Sound, May-enter, Offers, Lasting, Fine, Goes}
 use Rattle.agreement.proofs.Grow.{at-cell, known-grows, offers-grow, lasting-grows, voters-grow}
 use Rattle.agreement.proofs.Bests.{T-true, some≢none, false-true}
 use Rattle.agreement.proofs.Plans.{at-set, at-replicate, suc-less, noted-good, repeats-ok}
@@ -87,21 +88,13 @@ module _ (R : Rule) where
     not-silent : (p : ℕ) → 1 ≤ rnd C p → C p 1 ≡ None → ⊥
     not-silent p h e = let z = S .silent p e in omega arith
 
-    busy-phase : (f : Phase) → not (is-done f) ≡ true → not (is-idle f) ≡ true → T (active R f)
+    busy-phase : (f : Phase) → not (is-done f) ≡ true → not (is-idle f) ≡ true → T (is-active f)
     busy-phase Phase.Idle i j = T-true j
     busy-phase Phase.Waiting i j = tt
     busy-phase Phase.Acked i j = tt
     busy-phase Phase.Gathering i j = tt
     busy-phase Phase.Confirming i j = tt
     busy-phase Phase.Done i j = T-true i
-
-    waits : (f : Phase) → is-waiting f ≡ true → T (active R f)
-    waits Phase.Idle i = false-true i
-    waits Phase.Waiting i = tt
-    waits Phase.Acked i = tt
-    waits Phase.Gathering i = tt
-    waits Phase.Confirming i = tt
-    waits Phase.Done i = false-true i
 
     -- what a message of its kind says
     estimate-good : (k : Kind) (m : Message) → is-estimate k ≡ true → Good-as R V C k m → Offer V C (m .sender) (m .round) (m .reading) (m .stamp)
@@ -177,7 +170,7 @@ module _ (R : Rule) where
       recover-ok cs a b c = resume-ok (cs .decision) (cs .proposal) (cs .round) (cs .pair) a b c
 
       -- look: a higher round
-      climb-ok : (r : ℕ) (μ : Memory) → T (active R (μ .phase)) → Fine R V C p μ → μ .round ≤ r → Goes R V C p (enter (R .size) p (R .enough) r (still μ))
+      climb-ok : (r : ℕ) (μ : Memory) → T (is-active (μ .phase)) → Fine R V C p μ → μ .round ≤ r → Goes R V C p (enter (R .size) p (R .enough) r (still μ))
       climb-ok r μ i f up =
           let a = f .busy i in
           let here = a .stand .round in
@@ -191,7 +184,7 @@ module _ (R : Rule) where
       accept-ok μ m i from vote f =
           let r = μ .round in
           let c = coord R r in
-          let a = f .busy (waits (μ .phase) i) in
+          let a = f .busy (T-true (waiting-active (μ .phase) i)) in
           let W = plus V p (m .reading) r in
           let known = S .known c (m .reading) r vote in (
             record {
@@ -328,7 +321,7 @@ module _ (V : Votes) (s : State) (H : Holding (rule-of s) V s) where
   recover-at-ok (Up μ) p cut p1 = tt
   recover-at-ok Down p cut p1 = (p1, recover-ok R V C (H .sound) p p1 (own s p) refl refl refl)
 
-  look-ok : (p : ℕ) (list : List (Option ℕ)) (μ : Memory) (cut : Option ℕ) → 1 ≤ p → T (active R (μ .phase)) → Fine R V C p μ → Okay R V C (if-step p cut (look (s .size) p (s .enough) list μ))
+  look-ok : (p : ℕ) (list : List (Option ℕ)) (μ : Memory) (cut : Option ℕ) → 1 ≤ p → T (is-active (μ .phase)) → Fine R V C p μ → Okay R V C (if-step p cut (look (s .size) p (s .enough) list μ))
   unfolding look
   look-ok p list μ cut p1 busy f =
       let now = epoch-of list (coordinator (s .size) (μ .round)) in

@@ -41,6 +41,7 @@ use Rattle.process.specs.Phases.{is-ack, is-active, is-confirming, is-decide, 
 use Rattle.process.specs.Ranges.{act-fits, any-there, estimate-fits, every, last-fits, memory-fits, round-fits}
 use Rattle.process.specs.Rounds.{Step, ack, addressed, begin, best-kept, blank, chosen, choose, conclude, confirm, confirmed, coordinator, decide, enter, estimate, follow, gather, gathered, hold, in-phase, lead, new-estimate, new-round, noted, number-or, only, propose, propound, recover, remember, resumed, send, senders, settle, stamp-or, still, to-all, write}
 use Rattle.process.proofs.Looks.{least-next}
+use Rattle.process.proofs.Stages.{gathering-active, confirming-active, waiting-active}
 
 -- ---- tests over lists
 pub all-of : {A : Type 0} (test : A → Bool) (xs : List A) → every test xs ≡ true → All (λ x. test x ≡ true) xs
@@ -163,30 +164,6 @@ best-reading y b s e =
     (best-in prefers-estimate (λ x. estimate-fits x ≡ true) (joined listOf (y .kept)) b (kept-list estimate-fits (y .kept) (s .kept)) e) .0)
 
 -- ---- phases
-gathering-active : (f : Phase) → is-gathering f ≡ true → is-active f ≡ true
-gathering-active Phase.Idle i = absurd (false≢true i)
-gathering-active Phase.Waiting i = refl
-gathering-active Phase.Acked i = refl
-gathering-active Phase.Gathering i = refl
-gathering-active Phase.Confirming i = refl
-gathering-active Phase.Done i = absurd (false≢true i)
-
-confirming-active : (f : Phase) → is-confirming f ≡ true → is-active f ≡ true
-confirming-active Phase.Idle i = absurd (false≢true i)
-confirming-active Phase.Waiting i = refl
-confirming-active Phase.Acked i = refl
-confirming-active Phase.Gathering i = refl
-confirming-active Phase.Confirming i = refl
-confirming-active Phase.Done i = absurd (false≢true i)
-
-waiting-active : (f : Phase) → is-waiting f ≡ true → is-active f ≡ true
-waiting-active Phase.Idle i = absurd (false≢true i)
-waiting-active Phase.Waiting i = refl
-waiting-active Phase.Acked i = refl
-waiting-active Phase.Gathering i = refl
-waiting-active Phase.Confirming i = refl
-waiting-active Phase.Done i = absurd (false≢true i)
-
 not-both : (f : Phase) → is-done f ≡ true → is-gathering f ≡ true → ⊥
 not-both Phase.Idle d g = false≢true d
 not-both Phase.Waiting d g = false≢true d

@@ -5,3 +5,4 @@ pub mod Looks
 mod Plans
 pub mod Sends
 mod Slots
+pub mod Stages

@@ -17,6 +17,7 @@ use Rattle.std.specs.shelf.Lists.{All}
 use Rattle.tray.specs.Best.{Chosen, best-of}
 use Rattle.tray.specs.Kinds.{prefers-round}
 use Rattle.tray.specs.declared.kinds.Round.{Round}
+use Rattle.tray.proofs.Room.{put-appends}
 use Rattle.tray.proofs.Bests.{best-in, chosen-best, element-getD}
 use Rattle.std.proofs.shelf.Tests.{and-from, and-parts, both-ways, cases-bool, cases-lt, cond-true, cond-false, le-leb, leb-false, leb-true, lt-leb, lt-ltb, ltb-true, true≢false, false≢true}
 use mathlib.Core.Logic.{_⊎_, inl, inr}
@@ -71,9 +72,9 @@ module _ (test : ℕ → Bool) (start : ℕ) where
       → ok ≡ ltb (length xs) room → ys ≡ cond ok (xs ++ record { number = start + k } ∷ []) xs → ys ≡ candidates test start (k + 1)
   candidates-put k xs ys ok room so e h fits put =
       let few : length xs ≤ k = omega (arith, ap length so, candidates-few k) in
-      let yes : ok ≡ true = fits ∙ lt-ltb (length xs) room (omega arith) in
-      put ∙ (cond-true ok _ _ yes ∙ (ap (λ (l : List Round). l ++ record { number = start + k } ∷ []) so
-      ∙ sym (candidates-more k ∙ ap (λ (l : List Round). candidates test start k ++ l) (cond-true (test (start + k)) (record { number = start + k } ∷ []) [] e))))
+      put-appends xs ys (record { number = start + k }) ok room (omega arith) fits put
+      ∙ (ap (λ (l : List Round). l ++ record { number = start + k } ∷ []) so
+      ∙ sym (candidates-more k ∙ ap (λ (l : List Round). candidates test start k ++ l) (cond-true (test (start + k)) (record { number = start + k } ∷ []) [] e)))
 
   passing : (k : ℕ) → All (λ q. test (q .number) ≡ true) (candidates test start k)
   passing zero = tt

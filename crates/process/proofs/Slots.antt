@@ -1,6 +1,6 @@
 -- One slot more: the turns of the loops over kept estimates and last messages.
 use mathlib.Core.Path.{_≡_, sym, ap, _∙_}
-use mathlib.Core.Bool.{Bool, true, cond}
+use mathlib.Core.Bool.{Bool, cond}
 use lib.Dec.{ltb}
 use mathlib.Core.List.{List, [], _∷_, _++_}
 use Prim.Native.Nat.{ℕ, _+_, _<_, _≤_}
@@ -9,8 +9,8 @@ use lib.ListN.{length, take, getD, set}
 use Rattle.std.specs.Options.{isSome}
 use Rattle.std.specs.declared.option.Option.{Option}
 use Rattle.std.specs.declared.option.Option.the-variants.{Some, None}
+use Rattle.tray.proofs.Room.{put-appends}
 use Rattle.std.proofs.shelf.Lists.{take-all, take-more, take-more-set, map-more, joined-more, append-nil, length-push}
-use Rattle.std.proofs.shelf.Tests.{lt-ltb, cond-true}
 use Rattle.std.specs.Vec.{listOf}
 use Rattle.std.specs.shelf.Lists.{joined}
 use Rattle.tray.specs.declared.kinds.Estimate.{Estimate}
@@ -36,8 +36,7 @@ module _ {X : Type 0} (os : List (Option X)) (i : ℕ) (within : i < length os) 
   pub put-some : (xs ys : List X) (x : X) (ok : Bool) (room : ℕ) → xs ≡ joined listOf (take i os) → length xs ≤ i → getD os i None ≡ Some x → i < room
       → ok ≡ ltb (length xs) room → ys ≡ cond ok (xs ++ x ∷ []) xs → (ys ≡ joined listOf (take (i + 1) os)) × (length ys ≤ i + 1)
   put-some xs ys x ok room so few e h test put =
-      let yes : ok ≡ true = test ∙ lt-ltb (length xs) room (omega arith) in
-      let all : ys ≡ xs ++ x ∷ [] = put ∙ cond-true ok _ _ yes in (
+      let all : ys ≡ xs ++ x ∷ [] = put-appends xs ys x ok room (omega arith) test put in (
         all ∙ (ap (λ (l : List X). l ++ x ∷ []) so ∙ sym (joined-next ∙ ap (λ (o : Option X). joined listOf (take i os) ++ listOf o) e)),
         omega (arith, ap length all, length-push xs x),
       )

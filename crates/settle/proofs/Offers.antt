@@ -1,6 +1,6 @@
 -- One house more.
 use mathlib.Core.Path.{_≡_, refl, sym, ap, _∙_}
-use mathlib.Core.Bool.{Bool, true, cond}
+use mathlib.Core.Bool.{Bool, cond}
 use mathlib.Core.List.{List, [], _∷_, _++_}
 use Prim.Native.Nat.{ℕ, zero, suc, _+_, _<_, _≤_}
 use native.Mathlib.Numerals.{add-one}
@@ -8,10 +8,10 @@ use native.Mathlib.Omega.{arith}
 use lib.Dec.{ltb}
 use lib.ListN.{length, take, set}
 use Rattle.std.proofs.shelf.Lists.{length-append, append-nil, take-more-set}
-use Rattle.std.proofs.shelf.Tests.{lt-ltb, cond-true}
 use Rattle.std.specs.Vec.{listOf}
 use Rattle.std.specs.declared.option.Option.{Option}
 use Rattle.std.specs.declared.option.Option.the-variants.{Some, None}
+use Rattle.tray.proofs.Room.{put-appends}
 use Rattle.tray.specs.declared.kinds.Estimate.{Estimate}
 use Rattle.store.specs.Cells.{Cells}
 use Rattle.settle.specs.Houses.{estimate, offers, proposes, proposing}
@@ -36,9 +36,8 @@ module _ (cs : Cells) (i : ℕ) where
       → i < room → ok ≡ ltb (length xs) room → ys ≡ cond ok (xs ++ x ∷ []) xs → ys ≡ offers cs (i + 1)
   offers-put xs ys x ok room e o h test put =
       let few : length xs ≤ i = omega (arith, ap length e, offers-few cs i) in
-      let yes : ok ≡ true = test ∙ lt-ltb (length xs) room (omega arith) in
-      put ∙ (cond-true ok _ _ yes ∙ (ap (λ (l : List Estimate). l ++ x ∷ []) e
-      ∙ (ap (λ (y : Option Estimate). offers cs i ++ listOf y) o ∙ sym offers-more)))
+      put-appends xs ys x ok room (omega arith) test put
+      ∙ (ap (λ (l : List Estimate). l ++ x ∷ []) e ∙ (ap (λ (y : Option Estimate). offers cs i ++ listOf y) o ∙ sym offers-more))
 
   pub proposing-more : (xs : List Bool) (b : Bool) → i < length xs → take i xs ≡ proposing cs i → b ≡ proposes cs (i + 1) → take (i + 1) (set xs i b) ≡ proposing cs (i + 1)
   proposing-more xs b h e is = take-more-set xs i b h ∙ (ap (λ (l : List Bool). l ++ b ∷ []) e ∙ (ap (λ (x : Bool). proposing cs i ++ x ∷ []) is ∙ sym (rw add-one refl)))

@@ -1,4 +1,5 @@
 pub mod Bests
 mod First
 mod Places
+pub mod Room
 mod Shift
