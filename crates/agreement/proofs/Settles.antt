@@ -129,7 +129,7 @@ module _ (R : Rule) (p : ℕ) where
         }
 
   module _ (p1 : 1 ≤ p) (V : Votes) (C : Cells) (S : Sound R V C) where
-    -- S2
+    -- the decision
     conclude-ok : (s : Step) → is-confirming (s .memory .phase) ≡ true → R .enough (s .memory .acknowledgers) ≡ true → Goes R V C p s → Goes R V C p (conclude (R .size) p s)
     conclude-ok s i q h =
         let e = s .memory .reading in
@@ -146,7 +146,7 @@ module _ (R : Rule) (p : ℕ) where
         (λ i. cond-both (R .enough (s .memory .acknowledgers)) (conclude (R .size) p s) s (Goes R V C p) (λ j. conclude-ok s i j h) (λ _. h))
         (λ _. h)
 
-    -- S1
+    -- the choice
     propound-ok : (s : Step) (b : Estimate) → best-kept (s .memory .kept) ≡ Some b → is-gathering (s .memory .phase) ≡ true → R .enough (senders (s .memory .kept)) ≡ true
         → Goes R V C p s → Goes R V C p (propound (R .size) p (b .reading) s)
     propound-ok s b is i q h =
@@ -196,7 +196,7 @@ module _ (R : Rule) (p : ℕ) where
     unfolding settle
     settle-ok s h = confirmed-ok (gathered (R .size) p (R .enough) s) (gathered-ok s h)
 
-    -- E1 to E4, once the round is begun
+    -- the four ways into a round that is begun
     module _ (r : ℕ) (s : Step) where
       abbrev Begun : Votes → Cells → Type 0
       Begun W D = Stand R W D p r (s .memory .reading) (s .memory .stamp) × Lasting R W D (s .memory .last)

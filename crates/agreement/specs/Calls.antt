@@ -124,6 +124,7 @@ shown (drop-message i) s = world s ∷ record { cells = s .cells; box = without 
 abbrev pub need : Bool → Refusal → Verdict → Verdict
 need b e v = cond b v (refuse e)
 
+-- recovered with nothing to do
 abbrev pub is-idle : Phase → Bool
 is-idle Idle = true
 is-idle Waiting = false
@@ -132,6 +133,7 @@ is-idle Gathering = false
 is-idle Confirming = false
 is-idle Done = false
 
+-- by the record of p
 abbrev pub crash-at : Status → ℕ → Verdict
 crash-at Down p = refuse ProcessDown
 crash-at (Up m) p = put-down p
@@ -140,6 +142,7 @@ crash-at (Up m) p = put-down p
 abbrev pub crash-of : ℕ → State → Verdict
 crash-of p s = need (member s p) NoSuchProcess (crash-at (status s p) p)
 
+-- by the record of p
 abbrev pub again-at : Status → ℕ → Option ℕ → Verdict
 again-at Down p cut = refuse ProcessDown
 again-at (Up m) p cut = need (not (is-done (m .phase))) ProcessDone (need (not (is-idle (m .phase))) ProcessIdle (perform p cut (again m)))
@@ -148,6 +151,7 @@ again-at (Up m) p cut = need (not (is-done (m .phase))) ProcessDone (need (not (
 abbrev pub again-of : ℕ → Option ℕ → State → Verdict
 again-of p cut s = need (cut-fits cut) CutTooLarge (need (member s p) NoSuchProcess (again-at (status s p) p cut))
 
+-- by the record of p, and its proposal cell
 abbrev pub propose-at : Status → ℕ → ℕ → Option ℕ → State → Verdict
 propose-at Down p v cut s = refuse ProcessDown
 propose-at (Up m) p v cut s =
@@ -163,6 +167,7 @@ propose-of p v cut s = need (cut-fits cut) CutTooLarge (need (member s p) NoSuch
 abbrev pub own : State → ℕ → OwnCells
 own s p = record { proposal = s .cells p 1; round = s .cells p 2; pair = s .cells p 3; decision = s .cells p 4 }
 
+-- by the record of p
 abbrev pub recover-at : Status → ℕ → Option ℕ → State → Verdict
 recover-at (Up m) p cut s = refuse AlreadyUp
 recover-at Down p cut s = perform p cut (recover (s .size) p (s .enough) (own s p))
@@ -175,12 +180,14 @@ recover-of p cut s = need (cut-fits cut) CutTooLarge (need (member s p) NoSuchPr
 abbrev pub early : Message → Memory → Bool
 early m y = is-gathering (y .phase) && is-ack (m .kind) && eqb (m .round) (y .round)
 
+-- by the record of the addressee
 abbrev pub deliver-at : Status → Message → Option ℕ → State → Verdict
 deliver-at Down m cut s = refuse ProcessDown
 deliver-at (Up y) m cut s =
     need (not (early m y)) EarlyAck
     (perform (m .addressee) cut (deliver (s .size) (m .addressee) (s .enough) (s .cells (m .addressee) 4) m (still y)))
 
+-- by the message at the place
 abbrev pub deliver-it : Option Message → Option ℕ → State → Verdict
 deliver-it None cut s = refuse NoMessage
 deliver-it (Some m) cut s = need (well-formed (s .size) m) NoMessage (deliver-at (status s (m .addressee)) m cut s)
@@ -193,10 +200,12 @@ deliver-of i cut s = need (cut-fits cut) CutTooLarge (deliver-it (element (s .bo
 abbrev pub lose-of : ℕ → State → Verdict
 lose-of i s = need (isSome (element (s .box) i)) NoMessage (drop-message i)
 
+-- a look that has no step is refused
 abbrev pub if-step : ℕ → Option ℕ → Result Step NoRound → Verdict
 if-step p cut (Ok t) = perform p cut t
 if-step p cut (Err e) = refuse NoRoundFits
 
+-- by the record of p, and the list
 abbrev pub look-at : Status → ℕ → List (Option ℕ) → Option ℕ → State → Verdict
 look-at Down p list cut s = refuse ProcessDown
 look-at (Up m) p list cut s =

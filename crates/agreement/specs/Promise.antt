@@ -22,31 +22,37 @@ abbrev pub Ever : {A : Type 0} → (A → Type 0) → List A → Type 0
 Ever P [] = ⊥
 Ever P (x ∷ xs) = P x ⊎ Ever P xs
 
--- the cell holds this number; it holds this number with this stamp
+-- the cell holds this number
 abbrev pub Holds : Option Content → ℕ → Type 0
 Holds None v = ⊥
 Holds (Some x) v = x .number ≡ v
 
+-- the cell holds this number with this stamp
 abbrev pub Marked : Option Content → ℕ → ℕ → Type 0
 Marked None v r = ⊥
 Marked (Some x) v r = (x .number ≡ v) × (x .stamp ≡ r)
 
--- the pair cell of p holds (v, r); v stands in a proposal cell; v stands in a decision cell, in a DECIDE message of the tray, in either
+-- the pair cell of p holds (v, r)
 abbrev pub Bears : ℕ → ℕ → ℕ → World → Type 0
 Bears p v r t = Marked (t .cells p 3) v r
 
+-- v stands in a proposal cell
 abbrev pub Proposed : ℕ → World → Type 0
 Proposed v t = (q : ℕ) × Holds (t .cells q 1) v
 
+-- v stands in a decision cell
 abbrev pub Decided : ℕ → World → Type 0
 Decided v t = (p : ℕ) × Holds (t .cells p 4) v
 
+-- v stands in a DECIDE message that waits
 abbrev pub Announced : ℕ → World → Type 0
 Announced v t = Ever (λ m. (m .kind ≡ Kind.Decide) × (m .reading ≡ v)) (t .box)
 
+-- in either
 abbrev pub Settled : ℕ → World → Type 0
 Settled v t = Decided v t ⊎ Announced v t
 
+-- what holds of all that is seen
 pub record Agreement (n : ℕ) (enough : List Bool → Bool) (seen : List World) : Type 0 where
   -- all readings that ever stand in a decision cell or in a DECIDE message of the tray are one and the same
   pub one-decision : (v w : ℕ) → Ever (Settled v) seen → Ever (Settled w) seen → v ≡ w

@@ -10,9 +10,11 @@ use Rattle.process.specs.declared.message.Kind.the-variants.{NewRound, Estimat
 abbrev within : ℕ → ℕ → ℕ → Bool
 within low high x = leb low x && leb x high
 
+-- a round is from 1 to 999,999
 abbrev pub is-round : ℕ → Bool
 is-round r = within 1 999999 r
 
+-- a reading is from 1 to 99,999,999
 abbrev pub is-reading : ℕ → Bool
 is-reading v = within 1 99999999 v
 

@@ -5,6 +5,7 @@ use Rattle.process.specs.declared.message.Kind.the-variants.{NewRound, Estimat
 use Rattle.process.specs.declared.memory.Phase.{Phase}
 use Rattle.process.specs.declared.memory.Phase.the-variants.{Idle, Waiting, Acked, Gathering, Confirming, Done}
 
+-- for the choice of the coordinator
 abbrev pub is-waiting : Phase → Bool
 is-waiting Idle = false
 is-waiting Waiting = true
@@ -13,6 +14,7 @@ is-waiting Gathering = false
 is-waiting Confirming = false
 is-waiting Done = false
 
+-- estimates, as the coordinator
 abbrev pub is-gathering : Phase → Bool
 is-gathering Idle = false
 is-gathering Waiting = false
@@ -21,6 +23,7 @@ is-gathering Gathering = true
 is-gathering Confirming = false
 is-gathering Done = false
 
+-- its choice, as the coordinator
 abbrev pub is-confirming : Phase → Bool
 is-confirming Idle = false
 is-confirming Waiting = false
@@ -29,6 +32,7 @@ is-confirming Gathering = false
 is-confirming Confirming = true
 is-confirming Done = false
 
+-- with a decision
 abbrev pub is-done : Phase → Bool
 is-done Idle = false
 is-done Waiting = false
@@ -46,6 +50,7 @@ is-active Gathering = true
 is-active Confirming = true
 is-active Done = false
 
+-- the kinds, one by one
 abbrev pub is-estimate : Kind → Bool
 is-estimate NewRound = false
 is-estimate Estimate = true
@@ -53,6 +58,7 @@ is-estimate NewEstimate = false
 is-estimate Ack = false
 is-estimate Decide = false
 
+-- a choice
 abbrev pub is-new-estimate : Kind → Bool
 is-new-estimate NewRound = false
 is-new-estimate Estimate = false
@@ -60,6 +66,7 @@ is-new-estimate NewEstimate = true
 is-new-estimate Ack = false
 is-new-estimate Decide = false
 
+-- that a choice was taken over
 abbrev pub is-ack : Kind → Bool
 is-ack NewRound = false
 is-ack Estimate = false
@@ -67,6 +74,7 @@ is-ack NewEstimate = false
 is-ack Ack = true
 is-ack Decide = false
 
+-- a decision
 abbrev pub is-decide : Kind → Bool
 is-decide NewRound = false
 is-decide Estimate = false

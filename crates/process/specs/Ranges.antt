@@ -29,6 +29,7 @@ abbrev pub any-there : {A : Type 0} → (A → Bool) → Option A → Bool
 any-there test None = true
 any-there test (Some x) = test x
 
+-- an estimate in range
 abbrev pub estimate-fits : Estimate → Bool
 estimate-fits e = is-reading (e .reading) && leb (e .stamp) 999999
 
@@ -41,6 +42,7 @@ abbrev pub round-fits : Memory → Bool
 round-fits y =
     is-round (y .round) && is-reading (y .reading) && leb (y .stamp) 999999 && every (any-there estimate-fits) (y .kept)
 
+-- a memory in range; one that is in no round may hold any round and reading
 abbrev pub memory-fits : ℕ → ℕ → Memory → Bool
 memory-fits n p y =
     leb (y .heard) 999999 && any-there (λ k. leb k 999999) (y .epoch) && every (any-there (last-fits n p)) (y .last)

@@ -93,6 +93,7 @@ choose p e y = record {
   last = y .last;
 }
 
+-- another phase
 abbrev pub in-phase : Phase → Memory → Memory
 in-phase f y = record {
   phase = f;
@@ -106,19 +107,23 @@ in-phase f y = record {
   last = y .last;
 }
 
--- messages of process p; the addressee is filled in by who sends them
+-- messages of process p, whose addressee is filled in by who sends them; first that it began a round
 abbrev pub new-round : ℕ → ℕ → Message
 new-round p r = record { sender = p; addressee = 0; kind = NewRound; round = r; reading = 0; stamp = 0 }
 
+-- its estimate for a round
 abbrev pub estimate : ℕ → ℕ → ℕ → ℕ → Message
 estimate p r e t = record { sender = p; addressee = 0; kind = Estimated; round = r; reading = e; stamp = t }
 
+-- its choice in a round
 abbrev pub new-estimate : ℕ → ℕ → ℕ → Message
 new-estimate p r e = record { sender = p; addressee = 0; kind = NewEstimate; round = r; reading = e; stamp = 0 }
 
+-- that it took the choice over
 abbrev pub ack : ℕ → ℕ → Message
 ack p r = record { sender = p; addressee = 0; kind = Ack; round = r; reading = 0; stamp = 0 }
 
+-- its decision
 abbrev pub decide : ℕ → ℕ → Message
 decide p e = record { sender = p; addressee = 0; kind = Decide; round = 0; reading = e; stamp = 0 }
 
@@ -126,11 +131,12 @@ decide p e = record { sender = p; addressee = 0; kind = Decide; round = 0; readi
 abbrev pub propound : ℕ → ℕ → ℕ → Step → Step
 propound n p e s = to-all n (new-estimate p (s .memory .round) e) (write 3 e (s .memory .round) (remember (choose p e) s))
 
+-- the best estimate, if there is one, is the choice
 abbrev pub chosen : ℕ → ℕ → Option Estimate → Step → Step
 chosen n p None s = s
 chosen n p (Some b) s = propound n p (b .reading) s
 
--- S1
+-- the choice: gathering, and the senders of kept estimates are enough
 abbrev pub gathered : ℕ → ℕ → (List Bool → Bool) → Step → Step
 gathered n p enough s =
     cond (is-gathering (s .memory .phase)) (cond (enough (senders (s .memory .kept))) (chosen n p (best-kept (s .memory .kept)) s) s) s
@@ -139,13 +145,14 @@ gathered n p enough s =
 abbrev pub conclude : ℕ → ℕ → Step → Step
 conclude n p s = remember (in-phase Done) (write 4 (s .memory .reading) 0 (to-all n (decide p (s .memory .reading)) s))
 
--- S2
+-- the decision: confirming, and the acknowledgers are enough
 abbrev pub confirmed : ℕ → ℕ → (List Bool → Bool) → Step → Step
 confirmed n p enough s =
     cond (is-confirming (s .memory .phase))
     (cond (enough (s .memory .acknowledgers)) (conclude n p s) s)
     s
 
+-- Settle: first the choice, then the decision
 unfoldable pub settle : ℕ → ℕ → (List Bool → Bool) → Step → Step
 settle n p enough s = confirmed n p enough (gathered n p enough s)
 
@@ -191,24 +198,25 @@ confirm p y = record {
   last = y .last;
 }
 
--- E3, E4 without the settling: p is the coordinator
+-- the coordinator p begins its round: it confirms a choice that it made in this round before, else it gathers
 abbrev pub lead : ℕ → ℕ → ℕ → Step → Step
 lead n p r s =
     cond (eqb (s .memory .stamp) r)
     (to-all n (new-estimate p r (s .memory .reading)) (remember (confirm p) s))
     (remember (gather p) (to-all n (new-round p r) s))
 
--- E1, E2: c is the coordinator
+-- any other process begins its round: it acknowledges a choice that it took over in this round before, else it sends its estimate; c is the coordinator
 abbrev pub follow : ℕ → ℕ → ℕ → Step → Step
 follow p c r s =
     cond (eqb (s .memory .stamp) r)
     (remember (in-phase Acked) (send (addressed (ack p r) c) s))
     (remember (in-phase Waiting) (send (addressed (estimate p r (s .memory .reading) (s .memory .stamp)) c) s))
 
--- E1 to E4, once the round is begun
+-- the four ways into a round that is begun
 abbrev pub entered : ℕ → ℕ → (List Bool → Bool) → ℕ → Step → Step
 entered n p enough r s = cond (eqb p (coordinator n r)) (settle n p enough (lead n p r s)) (follow p (coordinator n r) r s)
 
+-- Enter a round: write it, begin it, and go one of the four ways
 unfoldable pub enter : ℕ → ℕ → (List Bool → Bool) → ℕ → Step → Step
 enter n p enough r s = entered n p enough r (write 2 r 0 (remember (begin r) s))
 
@@ -238,11 +246,12 @@ hold e t y = record {
 unfoldable pub propose : ℕ → ℕ → (List Bool → Bool) → ℕ → Step → Step
 propose n p enough v s = enter n p enough 1 (remember (hold v 0) (write 1 v 0 s))
 
--- a cell's number and stamp, or others where it is absent
+-- a cell's number, or another where it is absent
 abbrev pub number-or : Option Content → ℕ → ℕ
 number-or None d = d
 number-or (Some x) d = x .number
 
+-- a cell's stamp, or another where it is absent
 abbrev pub stamp-or : Option Content → ℕ → ℕ
 stamp-or None d = d
 stamp-or (Some x) d = x .stamp

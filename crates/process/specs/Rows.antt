@@ -30,19 +30,22 @@ in-round r h = record {
   last = blank .last;
 }
 
--- a list that trusts the processes that are written as 1
+-- the entry of a process that is trusted or not
 abbrev trusted : Bool → Option ℕ
 trusted true = Some 0
 trusted false = None
 
+-- a list that trusts the processes that are written as 1
 abbrev trusting : List ℕ → List (Option ℕ)
 trusting [] = []
 trusting (b ∷ bs) = trusted (eqb b 1) ∷ trusting bs
 
+-- the answer is this number
 abbrev is-some-of : ℕ → Option ℕ → Bool
 is-some-of k None = false
 is-some-of k (Some x) = eqb x k
 
+-- the answer is that there is none
 abbrev is-none : Option ℕ → Bool
 is-none None = true
 is-none (Some x) = false
@@ -52,10 +55,12 @@ abbrev estimates : ℕ → List (ℕ × ℕ) → List (Option Estimate)
 estimates p [] = []
 estimates p ((v, t) ∷ es) = Some (record { sender = p; reading = v; stamp = t }) ∷ estimates (suc p) es
 
+-- the estimate has this reading
 abbrev chooses : ℕ → Option Estimate → Bool
 chooses v None = false
 chooses v (Some e) = eqb (e .reading) v
 
+-- each row is a test that comes out true
 abbrev pub rows : List Bool
 rows =
     -- the coordinator of rounds 1 and 5 among five

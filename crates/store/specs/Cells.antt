@@ -25,6 +25,7 @@ abbrev pub sound : ℕ → Option Content → Bool
 sound c None = true
 sound c (Some v) = fits c v
 
+-- every cell is
 abbrev pub Sound : Cells → Type 0
 Sound cs = (p c : ℕ) → sound c (cs p c) ≡ true
 
