@@ -262,68 +262,68 @@ memory-whole n p y heard epoch last rest =
     (every-of (any-there (last-fits n p)) (y .last) last))
     rest
 
--- ---- the steps of process p of n; F is what is known of the memory at the start
-module _ (n p : ℕ) (n1 : 1 ≤ n) (n9 : n ≤ 9) (p1 : 1 ≤ p) (pn : p ≤ n) (F : Type 0) where
+-- ---- the steps of process p of n, with messages between processes 1 to N; F is what is known of the memory at the start
+module _ (n N p : ℕ) (n1 : 1 ≤ n) (n9 : n ≤ 9) (nN : n ≤ N) (p1 : 1 ≤ p) (pn : p ≤ n) (F : Type 0) where
   -- what every action keeps
   record Base (s : Step) : Type 0 where
     pairs : pairs-first (s .acts) ≡ true
-    acts : F → All (λ a. act-fits n p a ≡ true) (s .acts)
+    acts : F → All (λ a. act-fits N p a ≡ true) (s .acts)
     heard : F → s .memory .heard ≤ 999999
     epoch : F → any-there (λ k. leb k 999999) (s .memory .epoch) ≡ true
-    last : F → All (λ o. any-there (last-fits n p) o ≡ true) (s .memory .last)
+    last : F → All (λ o. any-there (last-fits N p) o ≡ true) (s .memory .last)
 
   may-send : (m : Message) → m .sender ≡ p → 1 ≤ m .addressee → m .addressee ≤ n → (m .addressee ≡ p → ⊥) → fields (m .kind) (m .round) (m .reading) (m .stamp) ≡ true
-      → (well-formed n m && eqb (m .sender) p) ≡ true
+      → (well-formed N m && eqb (m .sender) p) ≡ true
   may-send m from low high other f =
-      and-from (well-formed n m) (eqb (m .sender) p)
-      (and-from (between n m) (fields (m .kind) (m .round) (m .reading) (m .stamp))
-      (and-from ((leb 1 (m .sender) && leb (m .sender) n) && (leb 1 (m .addressee) && leb (m .addressee) n)) (not (eqb (m .sender) (m .addressee)))
-      (and-from (leb 1 (m .sender) && leb (m .sender) n) (leb 1 (m .addressee) && leb (m .addressee) n)
-      (to-within 1 n (m .sender) (omega arith) (omega arith)) (to-within 1 n (m .addressee) low high))
+      and-from (well-formed N m) (eqb (m .sender) p)
+      (and-from (between N m) (fields (m .kind) (m .round) (m .reading) (m .stamp))
+      (and-from ((leb 1 (m .sender) && leb (m .sender) N) && (leb 1 (m .addressee) && leb (m .addressee) N)) (not (eqb (m .sender) (m .addressee)))
+      (and-from (leb 1 (m .sender) && leb (m .sender) N) (leb 1 (m .addressee) && leb (m .addressee) N)
+      (to-within 1 N (m .sender) (omega arith) (omega arith)) (to-within 1 N (m .addressee) low (omega arith)))
       (ap not (ne-eqb (m .sender) (m .addressee) (λ e. other (sym e ∙ from))))) f)
       (eq-eqb (m .sender) p from)
 
-  send-base : (m : Message) (s : Step) → (F → (well-formed n m && eqb (m .sender) p) ≡ true) → Base s → Base (send m s)
+  send-base : (m : Message) (s : Step) → (F → (well-formed N m && eqb (m .sender) p) ≡ true) → Base s → Base (send m s)
   send-base m s ok b = record {
     pairs = pairs-push (s .acts) (Send m) (b .pairs) (apart-send m (s .acts));
-    acts = λ f. all-push (λ a. act-fits n p a ≡ true) (s .acts) (Send m) (b .acts f) (ok f);
+    acts = λ f. all-push (λ a. act-fits N p a ≡ true) (s .acts) (Send m) (b .acts f) (ok f);
     heard = b .heard;
     epoch = b .epoch;
-    last = λ f. all-set (λ o. any-there (last-fits n p) o ≡ true) (s .memory .last) (m .addressee - 1) (Some m) (ok f) (b .last f);
+    last = λ f. all-set (λ o. any-there (last-fits N p) o ≡ true) (s .memory .last) (m .addressee - 1) (Some m) (ok f) (b .last f);
   }
 
-  write-base : (c v t : ℕ) (s : Step) → eqb c 3 ≡ false → (F → act-fits n p (Write c (record { number = v; stamp = t })) ≡ true) → Base s → Base (write c v t s)
+  write-base : (c v t : ℕ) (s : Step) → eqb c 3 ≡ false → (F → act-fits N p (Write c (record { number = v; stamp = t })) ≡ true) → Base s → Base (write c v t s)
   write-base c v t s e ok b = record {
     pairs = pairs-push (s .acts) (Write c (record { number = v; stamp = t })) (b .pairs) (apart-write c (record { number = v; stamp = t }) e (s .acts));
-    acts = λ f. all-push (λ a. act-fits n p a ≡ true) (s .acts) (Write c (record { number = v; stamp = t })) (b .acts f) (ok f);
+    acts = λ f. all-push (λ a. act-fits N p a ≡ true) (s .acts) (Write c (record { number = v; stamp = t })) (b .acts f) (ok f);
     heard = b .heard;
     epoch = b .epoch;
     last = b .last;
   }
 
-  pair-base : (v t : ℕ) (s : Step) → All (λ a. silent a ≡ true) (s .acts) → (F → act-fits n p (Write 3 (record { number = v; stamp = t })) ≡ true) → Base s → Base (write 3 v t s)
+  pair-base : (v t : ℕ) (s : Step) → All (λ a. silent a ≡ true) (s .acts) → (F → act-fits N p (Write 3 (record { number = v; stamp = t })) ≡ true) → Base s → Base (write 3 v t s)
   pair-base v t s quiet ok b = record {
     pairs = pairs-push (s .acts) (Write 3 (record { number = v; stamp = t })) (b .pairs) (apart-pair (record { number = v; stamp = t }) (s .acts) quiet);
-    acts = λ f. all-push (λ a. act-fits n p a ≡ true) (s .acts) (Write 3 (record { number = v; stamp = t })) (b .acts f) (ok f);
+    acts = λ f. all-push (λ a. act-fits N p a ≡ true) (s .acts) (Write 3 (record { number = v; stamp = t })) (b .acts f) (ok f);
     heard = b .heard;
     epoch = b .epoch;
     last = b .last;
   }
 
   -- what process p writes
-  fit-write : (c v t : ℕ) → 1 ≤ c → c ≤ 4 → fits c (record { number = v; stamp = t }) ≡ true → act-fits n p (Write c (record { number = v; stamp = t })) ≡ true
+  fit-write : (c v t : ℕ) → 1 ≤ c → c ≤ 4 → fits c (record { number = v; stamp = t }) ≡ true → act-fits N p (Write c (record { number = v; stamp = t })) ≡ true
   fit-write c v t h k f = and-from (is-cell p c) (fits c (record { number = v; stamp = t })) (grind (arith, tells)) f
 
-  fit-proposal : (v : ℕ) → Reading v → act-fits n p (Write 1 (record { number = v; stamp = 0 })) ≡ true
+  fit-proposal : (v : ℕ) → Reading v → act-fits N p (Write 1 (record { number = v; stamp = 0 })) ≡ true
   fit-proposal v (l, h) = fit-write 1 v 0 (omega arith) (omega arith) (grind (arith, tells))
 
-  fit-round : (r : ℕ) → Round r → act-fits n p (Write 2 (record { number = r; stamp = 0 })) ≡ true
+  fit-round : (r : ℕ) → Round r → act-fits N p (Write 2 (record { number = r; stamp = 0 })) ≡ true
   fit-round r (l, h) = fit-write 2 r 0 (omega arith) (omega arith) (grind (arith, tells))
 
-  fit-pair : (v r : ℕ) → Reading v → r ≤ 999999 → act-fits n p (Write 3 (record { number = v; stamp = r })) ≡ true
+  fit-pair : (v r : ℕ) → Reading v → r ≤ 999999 → act-fits N p (Write 3 (record { number = v; stamp = r })) ≡ true
   fit-pair v r (l, h) k = fit-write 3 v r (omega arith) (omega arith) (grind (arith, tells))
 
-  fit-decision : (v : ℕ) → Reading v → act-fits n p (Write 4 (record { number = v; stamp = 0 })) ≡ true
+  fit-decision : (v : ℕ) → Reading v → act-fits N p (Write 4 (record { number = v; stamp = 0 })) ≡ true
   fit-decision v (l, h) = fit-write 4 v 0 (omega arith) (omega arith) (grind (arith, tells))
 
   -- a message for all
@@ -557,8 +557,8 @@ module _ (n p : ℕ) (n1 : 1 ≤ n) (n9 : n ≤ 9) (p1 : 1 ≤ p) (pn : p ≤ n)
         (omega arith) (refl, tt) reads (λ _. omega arith)
 
     -- recover
-    none-last : All (λ o. any-there (last-fits n p) o ≡ true) (replicate 9 None)
-    none-last = all-replicate (λ o. any-there (last-fits n p) o ≡ true) 9 None refl
+    none-last : All (λ o. any-there (last-fits N p) o ≡ true) (replicate 9 None)
+    none-last = all-replicate (λ o. any-there (last-fits N p) o ≡ true) 9 None refl
 
     fresh-base : (y : Memory) → y .heard ≡ 0 → y .epoch ≡ None → y .last ≡ replicate 9 None → Base (still y)
     fresh-base y h e l = record {
@@ -566,7 +566,7 @@ module _ (n p : ℕ) (n1 : 1 ≤ n) (n9 : n ≤ 9) (p1 : 1 ≤ p) (pn : p ≤ n)
       acts = λ _. tt;
       heard = λ _. omega arith;
       epoch = λ _. ap (any-there (λ k. leb k 999999)) e;
-      last = λ _. subst (All (λ o. any-there (last-fits n p) o ≡ true)) (sym l) none-last;
+      last = λ _. subst (All (λ o. any-there (last-fits N p) o ≡ true)) (sym l) none-last;
     }
 
     recover-fine : (cs : OwnCells) → (F → (sound 1 (cs .proposal) ≡ true) × (sound 2 (cs .round) ≡ true) × (sound 3 (cs .pair) ≡ true)) → Fine 27 (recover n p enough cs)
@@ -585,7 +585,7 @@ module _ (n p : ℕ) (n1 : 1 ≤ n) (n9 : n ≤ 9) (p1 : 1 ≤ p) (pn : p ≤ n)
     again-base : (y : Memory) → Base (still y) → Base (again y)
     again-base y b = record {
       pairs = resend-pairs (y .last);
-      acts = λ f. resend-acts n p (y .last) (b .last f);
+      acts = λ f. resend-acts N p (y .last) (b .last f);
       heard = b .heard;
       epoch = b .epoch;
       last = b .last;
@@ -754,71 +754,71 @@ module _ (n p : ℕ) (n1 : 1 ≤ n) (n9 : n ≤ 9) (p1 : 1 ≤ p) (pn : p ≤ n)
             (enter-fine 0 r (still y) (λ _. (omega arith, leb-true r 999999 small)) b (omega arith) tt (λ f. in-it f .reading) (λ f. in-it f .stamp))
 
   -- what holds at the start, and what it comes to at the end
-  base-of : (y : Memory) → (F → memory-fits n p y ≡ true) → Base (still y)
+  base-of : (y : Memory) → (F → memory-fits N p y ≡ true) → Base (still y)
   base-of y fit =
       record {
         pairs = refl;
         acts = λ _. tt;
-        heard = λ f. memory-parts n p y (fit f) .0;
-        epoch = λ f. memory-parts n p y (fit f) .1;
-        last = λ f. memory-parts n p y (fit f) .2;
+        heard = λ f. memory-parts N p y (fit f) .0;
+        epoch = λ f. memory-parts N p y (fit f) .1;
+        last = λ f. memory-parts N p y (fit f) .2;
       }
 
-  sane-of : (y : Memory) → (F → memory-fits n p y ≡ true) → F → is-active (y .phase) ≡ true → Sane y
-  sane-of y fit f i = of-round-fits y (sym (cond-true (is-active (y .phase)) (round-fits y) true i) ∙ memory-parts n p y (fit f) .3)
+  sane-of : (y : Memory) → (F → memory-fits N p y ≡ true) → F → is-active (y .phase) ≡ true → Sane y
+  sane-of y fit f i = of-round-fits y (sym (cond-true (is-active (y .phase)) (round-fits y) true i) ∙ memory-parts N p y (fit f) .3)
 
-  lawful-of : (k : ℕ) (s : Step) → Base s → length (s .acts) ≤ k → (F → is-active (s .memory .phase) ≡ true → Sane (s .memory)) → Lawful F n p k s
+  lawful-of : (k : ℕ) (s : Step) → Base s → length (s .acts) ≤ k → (F → is-active (s .memory .phase) ≡ true → Sane (s .memory)) → Lawful F N p k s
   lawful-of k s b few sane = record {
     few = few;
     pairs = b .pairs;
     ranges = λ f. (
-      every-of (act-fits n p) (s .acts) (b .acts f),
-      memory-whole n p (s .memory) (b .heard f) (b .epoch f) (b .last f)
+      every-of (act-fits N p) (s .acts) (b .acts f),
+      memory-whole N p (s .memory) (b .heard f) (b .epoch f) (b .last f)
           (cond-both (is-active (s .memory .phase)) (round-fits (s .memory)) true (λ (t : Bool). t ≡ true) (λ i. to-round-fits (s .memory) (sane f i)) (λ _. refl)),
     );
   }
 
-  lawful-fine : (k : ℕ) (s : Step) → Fine k s → Lawful F n p k s
+  lawful-fine : (k : ℕ) (s : Step) → Fine k s → Lawful F N p k s
   lawful-fine k s f = lawful-of k s (f .base) (f .few) (f .sane)
 
 -- ---- each public step
-module _ (n p : ℕ) (enough : List Bool → Bool) (n1 : 1 ≤ n) (n9 : n ≤ 9) (p1 : 1 ≤ p) (pn : p ≤ n) where
-  pub propose-lawful : (v : ℕ) (y : Memory) (s : Step) → s ≡ propose n p enough v (still y) → Lawful ((memory-fits n p y ≡ true) × (is-reading v ≡ true)) n p 28 s
+module _ (n N p : ℕ) (enough : List Bool → Bool) (n1 : 1 ≤ n) (n9 : n ≤ 9) (nN : n ≤ N) (p1 : 1 ≤ p) (pn : p ≤ n) where
+  pub propose-lawful : (v : ℕ) (y : Memory) (s : Step) → s ≡ propose n p enough v (still y) → Lawful ((memory-fits N p y ≡ true) × (is-reading v ≡ true)) N p 28 s
   propose-lawful v y s is =
-      let F : Type 0 = (memory-fits n p y ≡ true) × (is-reading v ≡ true) in
-      subst (Lawful F n p 28) (sym is)
-      (lawful-fine n p n1 n9 p1 pn F 28 (propose n p enough v (still y))
-      (propose-fine n p n1 n9 p1 pn F enough v y (λ f. of-within 1 99999999 v (f .1)) (base-of n p n1 n9 p1 pn F y (λ f. f .0))))
+      let F : Type 0 = (memory-fits N p y ≡ true) × (is-reading v ≡ true) in
+      subst (Lawful F N p 28) (sym is)
+      (lawful-fine n N p n1 n9 nN p1 pn F 28 (propose n p enough v (still y))
+      (propose-fine n N p n1 n9 nN p1 pn F enough v y (λ f. of-within 1 99999999 v (f .1)) (base-of n N p n1 n9 nN p1 pn F y (λ f. f .0))))
 
   pub recover-lawful : (cs : OwnCells) (s : Step) → s ≡ recover n p enough cs
-      → Lawful ((sound 1 (cs .proposal) ≡ true) × (sound 2 (cs .round) ≡ true) × (sound 3 (cs .pair) ≡ true)) n p 27 s
+      → Lawful ((sound 1 (cs .proposal) ≡ true) × (sound 2 (cs .round) ≡ true) × (sound 3 (cs .pair) ≡ true)) N p 27 s
   recover-lawful cs s is =
       let F : Type 0 = (sound 1 (cs .proposal) ≡ true) × (sound 2 (cs .round) ≡ true) × (sound 3 (cs .pair) ≡ true) in
-      subst (Lawful F n p 27) (sym is) (lawful-fine n p n1 n9 p1 pn F 27 (recover n p enough cs) (recover-fine n p n1 n9 p1 pn F enough cs (λ f. f)))
+      subst (Lawful F N p 27) (sym is) (lawful-fine n N p n1 n9 nN p1 pn F 27 (recover n p enough cs) (recover-fine n N p n1 n9 nN p1 pn F enough cs (λ f. f)))
 
   pub look-lawful : (list : List (Option ℕ)) (y : Memory) (r : Result Step NoRound) → r ≡ look n p enough list y
-      → LookLawful ((memory-fits n p y ≡ true) × (is-active (y .phase) ≡ true) × (epochs-fit list ≡ true)) n p 27 r
+      → LookLawful ((memory-fits N p y ≡ true) × (is-active (y .phase) ≡ true) × (epochs-fit list ≡ true)) N p 27 r
   look-lawful list y r is =
-      let F : Type 0 = (memory-fits n p y ≡ true) × (is-active (y .phase) ≡ true) × (epochs-fit list ≡ true) in
-      subst (LookLawful F n p 27) (sym is)
+      let F : Type 0 = (memory-fits N p y ≡ true) × (is-active (y .phase) ≡ true) × (epochs-fit list ≡ true) in
+      subst (LookLawful F N p 27) (sym is)
       (come (look n p enough list y)
-      (look-fine n p n1 n9 p1 pn F enough list y (λ f. f .2) (λ f. f .1) (base-of n p n1 n9 p1 pn F y (λ f. f .0)) (sane-of n p n1 n9 p1 pn F y (λ f. f .0))))
+      (look-fine n N p n1 n9 nN p1 pn F enough list y (λ f. f .2) (λ f. f .1) (base-of n N p n1 n9 nN p1 pn F y (λ f. f .0)) (sane-of n N p n1 n9 nN p1 pn F y (λ f. f .0))))
     where
-      come : (r : Result Step NoRound) → If-fine n p n1 n9 p1 pn ((memory-fits n p y ≡ true) × (is-active (y .phase) ≡ true) × (epochs-fit list ≡ true)) enough r
-          → LookLawful ((memory-fits n p y ≡ true) × (is-active (y .phase) ≡ true) × (epochs-fit list ≡ true)) n p 27 r
-      come (Ok s) f = lawful-fine n p n1 n9 p1 pn ((memory-fits n p y ≡ true) × (is-active (y .phase) ≡ true) × (epochs-fit list ≡ true)) 27 s (f 27 (omega arith))
+      come : (r : Result Step NoRound) → If-fine n N p n1 n9 nN p1 pn ((memory-fits N p y ≡ true) × (is-active (y .phase) ≡ true) × (epochs-fit list ≡ true)) enough r
+          → LookLawful ((memory-fits N p y ≡ true) × (is-active (y .phase) ≡ true) × (epochs-fit list ≡ true)) N p 27 r
+      come (Ok s) f = lawful-fine n N p n1 n9 nN p1 pn ((memory-fits N p y ≡ true) × (is-active (y .phase) ≡ true) × (epochs-fit list ≡ true)) 27 s (f 27 (omega arith))
       come (Err e) f = tt
 
-  pub again-lawful : (y : Memory) (s : Step) → length (y .last) ≤ 9 → s ≡ again y → Lawful (memory-fits n p y ≡ true) n p 27 s
+  pub again-lawful : (y : Memory) (s : Step) → length (y .last) ≤ 9 → s ≡ again y → Lawful (memory-fits N p y ≡ true) N p 27 s
   again-lawful y s short is =
-      let F : Type 0 = memory-fits n p y ≡ true in
-      subst (Lawful F n p 27) (sym is)
-      (lawful-of n p n1 n9 p1 pn F 27 (again y) (again-base n p n1 n9 p1 pn F enough y (base-of n p n1 n9 p1 pn F y (λ f. f))) (omega (arith, resend-few (y .last)))
-      (sane-of n p n1 n9 p1 pn F y (λ f. f)))
+      let F : Type 0 = memory-fits N p y ≡ true in
+      subst (Lawful F N p 27) (sym is)
+      (lawful-of n N p n1 n9 nN p1 pn F 27 (again y) (again-base n N p n1 n9 nN p1 pn F enough y (base-of n N p n1 n9 nN p1 pn F y (λ f. f))) (omega (arith, resend-few (y .last)))
+      (sane-of n N p n1 n9 nN p1 pn F y (λ f. f)))
 
   pub deliver-lawful : (m : Message) (y : Memory) (d : Option Content) (s : Step) → m .addressee ≡ p → s ≡ deliver n p enough d m (still y)
-      → Lawful ((memory-fits n p y ≡ true) × (well-formed n m ≡ true) × (sound 4 d ≡ true)) n p 27 s
+      → Lawful ((memory-fits N p y ≡ true) × (well-formed n m ≡ true) × (sound 4 d ≡ true)) N p 27 s
   deliver-lawful m y d s to is =
-      let F : Type 0 = (memory-fits n p y ≡ true) × (well-formed n m ≡ true) × (sound 4 d ≡ true) in
-      let f = deliver-fine n p n1 n9 p1 pn F enough m y to (λ f. f .1) (base-of n p n1 n9 p1 pn F y (λ f. f .0)) (sane-of n p n1 n9 p1 pn F y (λ f. f .0)) d (λ f. f .2) in
-      subst (Lawful F n p 27) (sym is) (lawful-fine n p n1 n9 p1 pn F 27 (deliver n p enough d m (still y)) (fine-more n p n1 n9 p1 pn F 18 27 _ (omega arith) f))
+      let F : Type 0 = (memory-fits N p y ≡ true) × (well-formed n m ≡ true) × (sound 4 d ≡ true) in
+      let f = deliver-fine n N p n1 n9 nN p1 pn F enough m y to (λ f. f .1) (base-of n N p n1 n9 nN p1 pn F y (λ f. f .0)) (sane-of n N p n1 n9 nN p1 pn F y (λ f. f .0)) d (λ f. f .2) in
+      subst (Lawful F N p 27) (sym is) (lawful-fine n N p n1 n9 nN p1 pn F 27 (deliver n p enough d m (still y)) (fine-more n N p n1 n9 nN p1 pn F 18 27 _ (omega arith) f))

@@ -38,7 +38,7 @@ pairs-first [] = true
 pairs-first (Write c v ∷ acts) = pairs-first acts
 pairs-first (Send m ∷ acts) = is-late m acts && pairs-first acts
 
--- what holds of a step of process p of n that has at most k actions; `given` is what its ranges rest on
+-- what holds of a step of process p that has at most k actions, whose messages are between processes 1 to n; `given` is what its ranges rest on
 pub record Lawful (given : Type 0) (n p k : ℕ) (s : Step) : Type 0 where
   -- it is short
   pub few : length (s .acts) ≤ k

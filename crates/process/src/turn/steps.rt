@@ -499,10 +499,12 @@ impl Turn {
     }
 }
 
+// In every promise `lawful` messages are between processes 1 to `among`, which is any number from the rule's on.
+
 // Propose: writes the proposal, and enters round 1.
 pub fn propose_turn<R: QuorumRule>(rule: &R, p: ProcessId, memory: Memory, reading: u32) -> Turn
     ensures value { λ r. ⌜ step r ≡ propose (R·QuorumRule .processes (now (rule .entry))) (p .number) (R·QuorumRule .quorum (now (rule .entry))) reading (still memory) ⌝ }
-    ensures lawful { λ r. ⌜ (p .number ≤ R·QuorumRule .processes (now (rule .entry)) → Lawful ((memory-fits (R·QuorumRule .processes (now (rule .entry))) (p .number) memory ≡ true) × (is-reading reading ≡ true)) (R·QuorumRule .processes (now (rule .entry))) (p .number) 28 (step r)) ⌝ }
+    ensures lawful { λ r. ⌜ ((among : ℕ) → R·QuorumRule .processes (now (rule .entry)) ≤ among → p .number ≤ R·QuorumRule .processes (now (rule .entry)) → Lawful ((memory-fits among (p .number) memory ≡ true) × (is-reading reading ≡ true)) among (p .number) 28 (step r)) ⌝ }
 {
     let mut turn = Turn::start(memory);
     turn.write(PROPOSAL, reading, 0);
@@ -515,7 +517,7 @@ pub fn propose_turn<R: QuorumRule>(rule: &R, p: ProcessId, memory: Memory, readi
 // Recover: goes on from what the process's own cells hold.
 pub fn recover_turn<R: QuorumRule>(rule: &R, p: ProcessId, cells: OwnCells) -> Turn
     ensures value { λ r. ⌜ step r ≡ recover (R·QuorumRule .processes (now (rule .entry))) (p .number) (R·QuorumRule .quorum (now (rule .entry))) cells ⌝ }
-    ensures lawful { λ r. ⌜ (p .number ≤ R·QuorumRule .processes (now (rule .entry)) → Lawful ((sound 1 (cells .proposal) ≡ true) × (sound 2 (cells .round) ≡ true) × (sound 3 (cells .pair) ≡ true)) (R·QuorumRule .processes (now (rule .entry))) (p .number) 27 (step r)) ⌝ }
+    ensures lawful { λ r. ⌜ ((among : ℕ) → R·QuorumRule .processes (now (rule .entry)) ≤ among → p .number ≤ R·QuorumRule .processes (now (rule .entry)) → Lawful ((sound 1 (cells .proposal) ≡ true) × (sound 2 (cells .round) ≡ true) × (sound 3 (cells .pair) ≡ true)) among (p .number) 27 (step r)) ⌝ }
 {
     let mut turn = Turn::start(blank_memory());
     match (cells.decision, cells.proposal) {
@@ -540,7 +542,7 @@ pub fn look_turn<R: QuorumRule>(
     list: &[Option<u32>],
 ) -> Result<Turn, NoRound>
     ensures value { λ r. ⌜ looked r ≡ look (R·QuorumRule .processes (now (rule .entry))) (p .number) (R·QuorumRule .quorum (now (rule .entry))) (now (list .entry)) memory ⌝ }
-    ensures lawful { λ r. ⌜ (p .number ≤ R·QuorumRule .processes (now (rule .entry)) → LookLawful ((memory-fits (R·QuorumRule .processes (now (rule .entry))) (p .number) memory ≡ true) × (is-active (memory .phase) ≡ true) × (epochs-fit (now (list .entry)) ≡ true)) (R·QuorumRule .processes (now (rule .entry))) (p .number) 27 (looked r)) ⌝ }
+    ensures lawful { λ r. ⌜ ((among : ℕ) → R·QuorumRule .processes (now (rule .entry)) ≤ among → p .number ≤ R·QuorumRule .processes (now (rule .entry)) → LookLawful ((memory-fits among (p .number) memory ≡ true) × (is-active (memory .phase) ≡ true) × (epochs-fit (now (list .entry)) ≡ true)) among (p .number) 27 (looked r)) ⌝ }
 {
     let mut turn = Turn::start(memory);
     if !trusts_any(list) {
@@ -566,7 +568,7 @@ pub fn deliver_turn<R: QuorumRule>(
     decision: Option<Content>,
 ) -> Turn
     ensures value { λ r. ⌜ step r ≡ deliver (R·QuorumRule .processes (now (rule .entry))) (letter .message .addressee) (R·QuorumRule .quorum (now (rule .entry))) decision (letter .message) (still memory) ⌝ }
-    ensures lawful { λ r. ⌜ (letter .message .addressee ≤ R·QuorumRule .processes (now (rule .entry)) → Lawful ((memory-fits (R·QuorumRule .processes (now (rule .entry))) (letter .message .addressee) memory ≡ true) × (well-formed (R·QuorumRule .processes (now (rule .entry))) (letter .message) ≡ true) × (sound 4 decision ≡ true)) (R·QuorumRule .processes (now (rule .entry))) (letter .message .addressee) 27 (step r)) ⌝ }
+    ensures lawful { λ r. ⌜ ((among : ℕ) → R·QuorumRule .processes (now (rule .entry)) ≤ among → letter .message .addressee ≤ R·QuorumRule .processes (now (rule .entry)) → Lawful ((memory-fits among (letter .message .addressee) memory ≡ true) × (well-formed (R·QuorumRule .processes (now (rule .entry))) (letter .message) ≡ true) × (sound 4 decision ≡ true)) among (letter .message .addressee) 27 (step r)) ⌝ }
     ensures gains { λ r. ⌜ Gains (letter .message .addressee) (letter .message) memory (r .memory) ⌝ }
     ensures repeated { λ r. ⌜ RepeatedAck (R·QuorumRule .quorum (now (rule .entry))) (letter .message) memory (step r) ⌝ }
     ensures once { λ r. ⌜ KeptOnce (letter .message) memory (r .memory) ⌝ }

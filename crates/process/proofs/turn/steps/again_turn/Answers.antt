@@ -11,4 +11,4 @@ pub returns : need.returns
 returns c =
     let y = c .args .memory in
     let value : record { memory = y; acts = _ } ≡ again y = ap (λ (l : List Action). record { memory = y; acts = l }) (c .repeat-last .ensures .value) in
-    record { value = value; lawful = λ n p n1 n9 p1 pn. again-lawful n p (λ _. true) n1 n9 p1 pn y _ (omega (arith, c .repeat-last .ensures .nine)) value }
+    record { value = value; lawful = λ n p n1 n9 p1 pn. again-lawful n n p (λ _. true) n1 n9 (omega arith) p1 pn y _ (omega (arith, c .repeat-last .ensures .nine)) value }

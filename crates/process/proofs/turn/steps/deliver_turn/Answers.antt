@@ -23,7 +23,7 @@ returns g c =
     ∙ ap (λ (k : ℕ). deliver n k q (a .decision) m (still (a .memory))) (c .addressee .ensures)) in
     record {
       value = value;
-      lawful = λ pn. deliver-lawful n p q n1 n9 (a .letter .«addressee_low») pn m (a .memory) (a .decision) s refl value;
+      lawful = λ k nk pn. deliver-lawful n k p q n1 n9 nk (a .letter .«addressee_low») pn m (a .memory) (a .decision) s refl value;
       gains = subst (λ (t : Step). Gains p m (a .memory) (t .memory)) (sym value) (deliver-gains n p q m (a .memory) (a .decision));
       repeated = subst (RepeatedAck q m (a .memory)) (sym value) (deliver-again n p q m (a .memory) (a .decision));
       once = subst (λ (t : Step). KeptOnce m (a .memory) (t .memory)) (sym value) (deliver-once n p q m (a .memory) (a .decision));

@@ -11,4 +11,4 @@ returns g c =
     let q = g .R·QuorumRule .quorum (a .rule .now) in
     let (n1, n9) = g .R·QuorumRule·met .sized (a .rule .now) in
     let value = c .enter .ensures .value ∙ ap (λ s. enter n (a .p .number) q 1 (remember (hold (a .reading) 0) s)) (c .write .ensures .value ∙ ap (write 1 (a .reading) 0) (c .start-turn .ensures)) in
-    record { value = value; lawful = λ pn. propose-lawful n (a .p .number) q n1 n9 (a .p .low) pn (a .reading) (a .memory) _ value }
+    record { value = value; lawful = λ k nk pn. propose-lawful n k (a .p .number) q n1 n9 nk (a .p .low) pn (a .reading) (a .memory) _ value }

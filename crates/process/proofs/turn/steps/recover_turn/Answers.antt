@@ -13,7 +13,7 @@ returns-in-Some-rest g c =
     let (n1, n9) = g .R·QuorumRule·met .sized (a .rule .now) in
     record {
       value = search needs;
-      lawful = λ pn. recover-lawful (g .R·QuorumRule .processes (a .rule .now)) (a .p .number) (g .R·QuorumRule .quorum (a .rule .now)) n1 n9 (a .p .low) pn (a .cells) _ (search needs);
+      lawful = λ k nk pn. recover-lawful (g .R·QuorumRule .processes (a .rule .now)) k (a .p .number) (g .R·QuorumRule .quorum (a .rule .now)) n1 n9 nk (a .p .low) pn (a .cells) _ (search needs);
     }
 
 pub returns-in-None-None : need.returns-in-None-None
@@ -23,7 +23,7 @@ returns-in-None-None g c =
     let (n1, n9) = g .R·QuorumRule·met .sized (a .rule .now) in
     record {
       value = search needs;
-      lawful = λ pn. recover-lawful (g .R·QuorumRule .processes (a .rule .now)) (a .p .number) (g .R·QuorumRule .quorum (a .rule .now)) n1 n9 (a .p .low) pn (a .cells) _ (search needs);
+      lawful = λ k nk pn. recover-lawful (g .R·QuorumRule .processes (a .rule .now)) k (a .p .number) (g .R·QuorumRule .quorum (a .rule .now)) n1 n9 nk (a .p .low) pn (a .cells) _ (search needs);
     }
 
 pub returns-in-None-Some : need.returns-in-None-Some
@@ -34,4 +34,4 @@ returns-in-None-Some g c =
     let (n1, n9) = g .R·QuorumRule·met .sized (a .rule .now) in
     let value = recovered n (a .p .number) enough (a .cells) (c .in-None-Some .proposal) _ _ _ (step (c .start-turn .result)) _
     (c .in-None-Some .is-0) (c .in-None-Some .is-1) (c .number-of-turn .ensures) (c .stamp-of-turn .ensures) (c .number-of .ensures) (c .start-turn .ensures ∙ ap still (c .blank-memory .ensures)) (c .enter .ensures .value) in
-    record { value = value; lawful = λ pn. recover-lawful n (a .p .number) enough n1 n9 (a .p .low) pn (a .cells) _ value }
+    record { value = value; lawful = λ k nk pn. recover-lawful n k (a .p .number) enough n1 n9 nk (a .p .low) pn (a .cells) _ value }
