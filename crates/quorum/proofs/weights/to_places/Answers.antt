@@ -5,8 +5,8 @@ use Rattle.quorum.specs.Rules.{light}
 use Rattle.quorum.specs.Weighing.{light_more, light_not}
 use Rattle.quorum.proofs.weights.to_places.Goals as goal
 
-pub returns-then-w-gt-MAX-WEIGHT : goal.returns-then-w-gt-MAX-WEIGHT
-returns-then-w-gt-MAX-WEIGHT c =
+pub returns-then-w-gt-MAX_WEIGHT : goal.returns-then-w-gt-MAX_WEIGHT
+returns-then-w-gt-MAX_WEIGHT c =
     record { test = sym (light_not c.args.weights.now c.loop-i.i (omega arith) (omega arith)); kept = tt }
 
 pub loop-i-preserved : goal.loop-i-preserved

@@ -10,8 +10,8 @@ returns g c =
     let prefers = g.T.Preference.prefers in
     let xs = items c.args.tray.now in
     let chosen : Chosen prefers xs c.at.result =
-    chosen_from_best prefers xs c.in-ok-place.place c.at.result
-    (subst (λ l. Best prefers l (Some c.in-ok-place.place)) c.as-slice.ensures c.in-ok-place.ensures) c.at.ensures in
+    chosen_from_best prefers xs c.in_ok-place.place c.at.result
+    (subst (λ l. Best prefers l (Some c.in_ok-place.place)) c.as_slice.ensures c.in_ok-place.ensures) c.at.ensures in
     record {
       chosen = chosen;
       value = chosen_same prefers xs c.at.result _ chosen (chosen_best prefers g.met.T.Preference.total g.met.T.Preference.transitive xs);
