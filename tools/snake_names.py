@@ -15,7 +15,7 @@ import sys
 
 PART = "[A-Za-z0-9_'\u0370-\u03ff\u2070-\u209f\u2200-\u22ff]+"
 HYPHENED = re.compile(r"(?<![\w'\-])" + PART + r"(?:-" + PART + r")+(?![\w'\-])")
-USE = re.compile(r"^\s*(?:pub )?(?:ghost )?use (Rattle\.[\w.+]+)(?:\.\{(.*)\})?(?: as \w+)?;?\s*$")
+USE = re.compile(r"^\s*(?:pub )?(?:ghost )?use ([A-Za-z]\w*\.[\w.+]+)(?:\.\{(.*)\})?(?: as \w+)?;?\s*$")
 DEFINED = re.compile(r"^\s*(?:abbrev |record |data |pub |opaque |unfoldable )*(" + PART + r"(?:-" + PART + r")+)\s*(?:\{|:|\()")
 MADE = re.compile(r"\.proofs\..*\.(Goals|Given)$|\.proofs\..*\.(Goals|Given)\.")
 
@@ -37,6 +37,11 @@ def is_lemma_file(path):
     return os.path.basename(os.path.dirname(path)) in ("specs", "proofs")
 
 
+def is_own(module):
+    top, crate = module.split(".")[:2]
+    return top == "Rattle" and crate in CRATES
+
+
 def imports(text):
     """The names that a file imports: from the library, and from this repository (goals and steps aside)."""
     library, own = set(), set()
@@ -45,7 +50,7 @@ def imports(text):
         if not found or found.group(2) is None:
             continue
         names = {name.strip().split(" as ")[0].strip() for name in found.group(2).split(",")}
-        if found.group(1).split(".")[1] not in CRATES:
+        if not is_own(found.group(1)):
             library |= names
         elif not MADE.search(found.group(1)):
             own |= names
@@ -120,7 +125,7 @@ def main():
         out, last = [], 0
         for start, end in code_parts(path, text):
             part = text[start:end]
-            if USE.match(part) and (MADE.search(USE.match(part).group(1)) or USE.match(part).group(1).split(".")[1] not in CRATES):
+            if USE.match(part) and (MADE.search(USE.match(part).group(1)) or not is_own(USE.match(part).group(1))):
                 continue
             out.append(text[last:start])
             out.append(HYPHENED.sub(lambda m: turned[m.group(0)] if m.group(0) in names else m.group(0), part))

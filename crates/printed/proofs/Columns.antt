@@ -1,15 +1,15 @@
 -- Numbers in columns.
 use Rattle.std.proofs.Common.{◌≡◌, ℕ, zero, suc, ◌+◌, ◌*◌, ◌/◌, ◌%◌, ◌^◌, ◌<◌, ◌≤◌, eqb, [], ◌∷◌, length, take, refl, ap, ◌∙◌, inl, inr, zero-le, add-zero, add-suc, pow-suc, add-one, arith, lit<}
-use native.Mathlib.Nat.{pow_le_pow_right}
+use native.Mathlib.Nat.{pow-le-pow_right}
 use Rattle.std.proofs.lemmas.List.{length_push, take-append-le, take_all, same_from_push}
 use Rattle.std.proofs.lemmas.Bool.{cases_eq, eq-eqb, ne_eqb, cond-true, cond-false}
 use Rattle.printed.specs.Fields.{figure, leading, justified}
 
 pub ten_pos : (k : ℕ) → 0 < 10 ^ k
-ten_pos k = let h : 10 ^ 0 ≤ 10 ^ k = pow_le_pow_right {n = 10} (lit< tt) zero-le in h
+ten_pos k = let h : 10 ^ 0 ≤ 10 ^ k = pow-le-pow_right {n = 10} (lit< tt) zero-le in h
 
 pub ten_below : (n i j : ℕ) → n < 10 ^ i → i ≤ j → n < 10 ^ j
-ten_below n i j h l = let p : 10 ^ i ≤ 10 ^ j = pow_le_pow_right {n = 10} (lit< tt) l in omega arith
+ten_below n i j h l = let p : 10 ^ i ≤ 10 ^ j = pow-le-pow_right {n = 10} (lit< tt) l in omega arith
 
 pub length_leading : (w m : ℕ) → length (leading w m) ≡ w
 length_leading zero m = refl

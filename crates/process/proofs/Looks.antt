@@ -1,6 +1,6 @@
 -- Failure detectors' lists: the turns of the loops over them, and the round that a look enters.
 use Rattle.std.proofs.Common.{◌≡◌, ℕ, zero, suc, ◌+◌, ◌-◌, ◌%◌, ◌<◌, ◌≤◌, max, Bool, true, false, cond, ◌&&◌, ltb, leb, ◌⊎◌, List, [], ◌∷◌, ◌++◌, length, get_or, drop, is_some, Some, None, Option, sym, refl, ap, ◌∙◌, subst, inl, inr, mod-lt, add-one, arith}
-use native.Mathlib.Nat.{add_mod_mod, mod_le}
+use native.Mathlib.Nat.{add-mod-mod, mod-le}
 use Rattle.std.specs.Option.{option_map}
 use Rattle.std.proofs.lemmas.List.{at_drop_more, append-nil, get_or_append_left, get_or_at, length-append}
 use Rattle.std.proofs.ByRecursion.{All-append, All-get_or}
@@ -123,9 +123,9 @@ module _ (n : ℕ) (list : List (Option ℕ)) (m : Memory) (some : 1 ≤ n) wher
       let b = leb-true m.heard q heard in
       let c = leb-true q 999999 small in
       let d = (q - start) % n in
-      let le : d ≤ q - start = mod_le (q - start) n in
+      let le : d ≤ q - start = mod-le (q - start) n in
       let back : start + (q - start) ≡ q = omega arith in
-      let same : coordinator n (start + d) ≡ coordinator n q = ap (λ (r : ℕ). r + 1) (add_mod_mod start (q - start) n ∙ ap (λ (r : ℕ). r % n) back) in
+      let same : coordinator n (start + d) ≡ coordinator n q = ap (λ (r : ℕ). r + 1) (add-mod-mod start (q - start) n ∙ ap (λ (r : ℕ). r % n) back) in
       let in_reach : start + d ≤ q = omega arith in (
         d,
         mod-lt (q - start) some,

@@ -5,4 +5,4 @@ use Rattle.printed.proofs.printed_store.Text.put.Goals as goal
 pub returns : goal.returns
 returns c =
     let at = 16 * c.args.k in
-    record { after = put_between _ _ _ at (at + 16 - at) (at + 16) c.copy-from-slice.ensures.after (omega arith); named = refl }
+    record { after = put_between _ _ _ at (at + 16 - at) (at + 16) c.copy_from_slice.ensures.after (omega arith); named = refl }

@@ -6,10 +6,10 @@ pub returns-in-Done-default : goal.returns-in-Done-default
 unfolding deliver
 returns-in-Done-default g c = search rules
 
-pub returns-in-default-Decide : goal.returns-in-default-Decide
+pub returns-in_default-Decide : goal.returns-in_default-Decide
 unfolding deliver
-returns-in-default-Decide g c = search rules
+returns-in_default-Decide g c = search rules
 
-pub returns-in-default : goal.returns-in-default
+pub returns-in_default : goal.returns-in_default
 unfolding deliver
-returns-in-default g c = search rules
+returns-in_default g c = search rules

@@ -32,5 +32,5 @@ returns-in-None-Some g c =
     let enough = g.R.QuorumRule.quorum a.rule.now in
     let (n1, n9) = g.met.R.QuorumRule.sized a.rule.now in
     let value = recovered n a.p.number enough a.cells c.in-None-Some.proposal _ _ _ (step c.start-turn.result) _
-    c.in-None-Some.is-0 c.in-None-Some.is-1 c.number-of-turn.ensures c.stamp-of-turn.ensures c.number-of.ensures (c.start-turn.ensures ∙ ap still c.blank-memory.ensures) c.enter.ensures.value in
+    c.in-None-Some.is-0 c.in-None-Some.is-1 c.number_of-turn.ensures c.stamp_of-turn.ensures c.number_of.ensures (c.start-turn.ensures ∙ ap still c.blank_memory.ensures) c.enter.ensures.value in
     record { value = value; lawful = λ k nk pn. recover_lawful n k a.p.number enough n1 n9 nk a.p.low pn a.cells _ value }

@@ -6,24 +6,24 @@ use Rattle.store.proofs.Rows.{index_known}
 use Rattle.printed.proofs.Kept.{printed_written, cells_written}
 use Rattle.printed.proofs.printed_store.methods.PrintedStoreStore.write.Goals as goal
 
-pub invariant-of-self : goal.invariant-of-self
-invariant-of-self c =
+pub invariant_of-self : goal.invariant_of-self
+invariant_of-self c =
     let s = c.args.self.now in
     let p : Printed c.put.new.self.bytes.now =
     printed_written s.text.bytes.now _ _ c.args.process c.args.cell _ c.args.content (s.long, s.shown, s.sound)
-    c.in-ok-k.ensures (sym c.if-not-is-fit.ensures) c.print-line-line.ensures c.put.ensures.after in
-    (p.0, (p.1, (p.2, tt)))
+    c.in_ok-k.ensures (sym c.if-not-is_fit.ensures) c.print_line-line.ensures c.put.ensures.after in
+    record { long = p.0; shown = p.1; sound = p.2 }
 
 pub returns : goal.returns
 returns c =
     let s = c.args.self.now in
-    let (there, is) = index_known c.args.process c.args.cell _ c.in-ok-k.ensures in
+    let (there, is) = index_known c.args.process c.args.cell _ c.in_ok-k.ensures in
     record {
-      answer = sym (cond-true _ _ _ there ∙ cond-true _ _ _ (sym c.if-not-is-fit.ensures));
+      answer = sym (cond-true _ _ _ there ∙ cond-true _ _ _ (sym c.if-not-is_fit.ensures));
       after = cells_written s.text.bytes.now _ _ c.args.process c.args.cell _ c.args.content (s.long, s.shown, s.sound)
-          c.in-ok-k.ensures (sym c.if-not-is-fit.ensures) c.print-line-line.ensures c.put.ensures.after;
+          c.in_ok-k.ensures (sym c.if-not-is_fit.ensures) c.print_line-line.ensures c.put.ensures.after;
       text = c.put.ensures.after
-          ∙ (ap (λ (n : ℕ). with_line s.text.bytes.now n c.print-line-line.result) is
-          ∙ ap (with_line s.text.bytes.now (index c.args.process c.args.cell)) c.print-line-line.ensures);
+          ∙ (ap (λ (n : ℕ). with_line s.text.bytes.now n c.print_line-line.result) is
+          ∙ ap (with_line s.text.bytes.now (index c.args.process c.args.cell)) c.print_line-line.ensures);
       named = c.put.ensures.named;
     }
