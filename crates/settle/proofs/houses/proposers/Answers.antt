@@ -6,8 +6,8 @@ use Rattle.settle.proofs.houses.proposers.Goals as goal
 
 pub loop-i-preserved : goal.loop-i-preserved
 loop-i-preserved g c = (
-  proposing_more (g.S.Store.cells c.args.store.now) c.loop-i.i c.loop-i.set c.has-proposal.result (omega arith)
-      c.loop-i.invariant.0 c.has-proposal.ensures,
+  proposing_more (g.S.Store.cells c.args.store.now) c.loop-i.i c.loop-i.set c.has_proposal.result (omega arith)
+      c.loop-i.invariant.0 c.has_proposal.ensures,
   length-set _ _ _ ∙ c.loop-i.invariant.1,
 )
 
