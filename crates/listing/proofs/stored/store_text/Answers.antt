@@ -11,9 +11,9 @@ loop-k-init g c = (refl, refl)
 pub loop-k-preserved : goal.loop-k-preserved
 loop-k-preserved g c =
     let start = 16 * c.loop-k.k in
-    lines_more (g.S.Store.cells c.args.store.now) c.loop-k.text c.copy-from-slice.new.self c.loop-k.k start (start + 16 - start)
+    lines_more (g.S.Store.cells c.args.store.now) c.loop-k.text c.copy_from_slice.new.self c.loop-k.k start (start + 16 - start)
     c.loop-k.invariant c.loop-k-test.true refl (omega arith)
-    (c.copy-from-slice.ensures.after ∙ c.print-line-line.ensures ∙ ap line c.held.ensures)
+    (c.copy_from_slice.ensures.after ∙ c.print_line-line.ensures ∙ ap line c.held.ensures)
 
 pub returns : goal.returns
 returns g c = lines_all (g.S.Store.cells c.args.store.now) c.loop-k.text c.loop-k.k c.loop-k.invariant (omega arith)

@@ -4,8 +4,8 @@ use Rattle.std.proofs.lemmas.List.{at_drop_all}
 use Rattle.script.proofs.Splits.{run_ends, run_more}
 use Rattle.script.proofs.words.count_run.Goals as goal
 
-pub returns-then-not-is-alike : goal.returns-then-not-is-alike
-returns-then-not-is-alike c =
+pub returns-then-not-is_alike : goal.returns-then-not-is_alike
+returns-then-not-is_alike c =
     record { value = run_ends c.args.blank c.args.line.now c.loop-i.i c.loop-i.invariant c.loop-i-test.true (search rules); within = search rules }
 
 pub loop-i-preserved : goal.loop-i-preserved

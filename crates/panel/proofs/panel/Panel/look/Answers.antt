@@ -9,4 +9,4 @@ finish-requires g c =
     let rule = c.args.self.now.rule in
     let high = member_high (g.R.QuorumRule.processes rule) c.args.p p.number c.in-Some.ensures.test c.in-Some.ensures.kept in
     let l = c.in-Ok.ensures.lawful 9 (g.met.R.QuorumRule.sized rule).1 high in
-    (omega (arith, l.few), l.ranges (c.in-Up.ensures.fits, active_from c.in-Up.memory.phase c.in-default-phase.not-Idle c.in-default-phase.not-Done, (and_parts _ _ (sym c.if-not-is-list.ensures)).1))
+    (omega (arith, l.few), l.ranges (c.in-Up.ensures.fits, active_from c.in-Up.memory.phase c.in_default-phase.not-Idle c.in_default-phase.not-Done, (and_parts _ _ (sym c.if-not-is_list.ensures)).1))
