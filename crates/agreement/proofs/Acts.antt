@@ -1,7 +1,6 @@
 -- Each action that may be done keeps what holds of votes and cells.
 use Rattle.std.proofs.Common.{◌≡◌, ℕ, zero, suc, ◌≤◌, ◌&&◌, eqb, Some, None, sym, refl, ◌∙◌, inl, inr, ⊎_elim, le_trans, le_of_eq, le_refl}
 use Rattle.std.proofs.lemmas.Bool.{and_right, ne_eqb, cond-false}
-use Rattle.quorum.specs.Laws.{has}
 use Rattle.store.specs.declared.content.Content.{Content}
 use Rattle.store.specs.Cells.{Cells, put}
 use Rattle.process.specs.declared.memory.Action.{Action}

@@ -2,7 +2,6 @@
 use Rattle.std.proofs.Common.{◌≡◌, ℕ, zero, suc, ◌-◌, ◌≤◌, Bool, true, false, not, ◌&&◌, T, eqb, ltb, leb, List, [], ◌∷◌, length, get_or, set, is_some, Some, None, Ok, Option, Result, refl, subst, inl, inr, le_refl, arith}
 use Rattle.std.specs.List.{AllByRecursion as All, slice_get}
 use Rattle.std.proofs.lemmas.Bool.{cond_both, and_parts, eqb-true, ltb-true}
-use Rattle.quorum.specs.Laws.{has}
 use Rattle.store.specs.declared.content.Content.{Content}
 use Rattle.store.specs.Cells.{Cells}
 use Rattle.process.specs.declared.message.Kind.{Kind}

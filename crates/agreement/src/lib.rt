@@ -1,4 +1,6 @@
 //! The model of a panel's runs, and what holds of every one of them.
+#![tactic(auto)]
+
 ghost use Rattle.agreement.specs.Promise.{Agreed};
 
 pub mod call;

@@ -1,7 +1,7 @@
 -- A field, read column by column.
 use Rattle.std.proofs.Common.{◌≡◌, ℕ, zero, suc, ◌+◌, ◌-◌, ◌*◌, ◌/◌, ◌%◌, ◌^◌, ◌<◌, ◌≤◌, List, [], ◌∷◌, ◌++◌, length, get_or, take, Some, None, sym, refl, ap, ◌∙◌, subst, add-zero, add-suc, pow-suc, add-one, arith}
 use Rattle.std.proofs.lemmas.List.{take_more, take-append-le, take_all, same_from_push}
-use Rattle.printed.specs.Fields.{figure, leading, justified, field, Field, FieldShape, NumberShape, BlankShape, WrongAt}
+use Rattle.printed.specs.Fields.{figure, leading, justified, Field, FieldShape, NumberShape, BlankShape, WrongAt}
 use Rattle.printed.proofs.Columns.{ten_pos, length_leading, length_justified, same_leading, tenth_below, take_leading, more_leading}
 
 -- the front of a field, as any right one has it

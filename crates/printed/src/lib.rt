@@ -1,4 +1,6 @@
 //! A store printed as text: 36 lines of 16 bytes.
+#![tactic(auto)]
+
 ghost use Rattle.std.specs.Prelude.{◌≡◌, ℕ, ◌+◌, ◌*◌, ◌/◌, ◌<◌, ◌≤◌, length, Some, None, MatchOption, MatchResult, ◌≢◌};
 ghost use Rattle.printed.specs.Faults.{FieldWrong, LineWrong, TextWrong, ShapeWrong};
 ghost use Rattle.printed.specs.Fields.{figure, Field, FieldShape, NumberShape, BlankShape};
@@ -233,7 +235,7 @@ mod tests {
             assert_eq!(rt; store.read(9, PAIR).ok(), Some(Some(pair)));
             assert_eq!(rt; store.read(8, PAIR).ok(), Some(None));
         }
-        assert_eq!(rt; &text[544..560], b"     407     12\n");
+        assert_eq!(rt; &text[544..560], b"     407     12\n".as_slice());
         assert_eq!(rt; text == with_line(35, b"     407     12\n"), true);
     }
 }

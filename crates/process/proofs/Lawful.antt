@@ -26,7 +26,7 @@ use Rattle.process.specs.Meetings.{accept, adopt, again, deliver, hear, heed, jo
 use Rattle.process.specs.Messages.{between, fields, is_reading, is_round, well_formed}
 use Rattle.process.specs.Phases.{is_ack, is_active, is_confirming, is_decide, is_done, is_estimate, is_gathering, is_new_estimate, is_waiting}
 use Rattle.process.specs.Ranges.{act_fits, any_there, estimate_fits, every, last_fits, memory_fits, round_fits}
-use Rattle.process.specs.Rounds.{Step, ack, addressed, begin, best_kept, blank, chosen, choose, conclude, confirm, confirmed, coordinator, decide, enter, estimate, follow, gather, gathered, hold, in_phase, lead, new_estimate, new_round, noted, number_or, only, propose, propound, recover, remember, resumed, send, senders, settle, stamp_or, still, to_all, write}
+use Rattle.process.specs.Rounds.{Step, ack, addressed, begin, best_kept, blank, chosen, choose, conclude, confirm, confirmed, coordinator, decide, enter, estimate, follow, gather, gathered, hold, in_phase, lead, new_estimate, new_round, noted, number_or, propose, propound, recover, remember, resumed, send, senders, settle, stamp_or, still, to_all, write}
 use Rattle.process.proofs.Looks.{least_next}
 use Rattle.process.proofs.Stages.{gathering_active, confirming_active, waiting_active}
 

@@ -1,4 +1,6 @@
 //! One process of a panel: its messages, its memory, and its steps.
+#![tactic(auto)]
+
 pub mod identity;
 pub mod lists;
 pub mod memory;

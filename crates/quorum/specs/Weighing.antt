@@ -2,7 +2,7 @@
 use Rattle.std.specs.Prelude.{◌≡◌, ℕ, zero, suc, ◌+◌, ◌*◌, ◌<◌, ◌≤◌, Bool, true, false, cond, ◌&&◌, List, [], ◌∷◌, ◌++◌, length, take, replicate, nat_le, nat_lt, slice_index, refl}
 use Rattle.std.proofs.Common.{sym, ap, ◌∙◌, arith}
 use Rattle.std.proofs.Math.Bool.{and-true, and_assoc}
-use Rattle.std.proofs.lemmas.List.{take_more, get_or-replicate, length-take-le, length-replicate}
+use Rattle.std.proofs.lemmas.List.{take_more, get_or-replicate, length-take-le, length-replicate, length-take}
 use Rattle.std.proofs.lemmas.Bool.{ltb-true, lt-ltb, lt-leb, and_left, and_right, false≢true}
 use Rattle.quorum.specs.Laws.{has, Shares, Grows, Whole}
 use Rattle.quorum.specs.Rules.{members, majority, total, weight, heavy, light}
@@ -54,6 +54,10 @@ weight_all [] a h = refl
 weight_all (w ∷ ws) [] h = absurd (false≢true (h 0 (omega arith)))
 weight_all (w ∷ ws) (x ∷ a) h =
     rw (h 0 (omega arith), weight_all ws a (λ k l. h (suc k) (omega arith)))
+
+-- the first n of a list are at most n
+pub front_fits : (n : ℕ) (ws : List ℕ) → length (take n ws) ≤ n
+front_fits n ws = omega (arith, length-take {A = ℕ} n ws)
 
 -- the laws of every rule by weights
 module _ (n : ℕ) (ws : List ℕ) (fits : length ws ≤ n) where

@@ -1,4 +1,6 @@
 //! Quorum rules: which sets of processes are enough.
+#![tactic(auto)]
+
 ghost use Rattle.std.specs.Prelude.{◌≡◌, ℕ, ◌≤◌, Bool, true, List};
 ghost use Rattle.quorum.specs.Laws.{Shares, Grows, Whole};
 ghost use Rattle.quorum.specs.Refused.{number};

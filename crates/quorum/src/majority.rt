@@ -2,7 +2,6 @@
 ghost use Rattle.std.specs.Prelude.{◌≡◌, ◌≤◌, take, is_ok, IfOk};
 ghost use Rattle.quorum.specs.Rules.{members, majority, is_size};
 ghost use Rattle.quorum.specs.Weighing.{majority_shares, majority_grows, majority_whole};
-ghost use Rattle.std.proofs.Common.{rules, arith};
 
 use super::{CannotBeMade, ProcessSet, QuorumRule};
 
@@ -50,7 +49,7 @@ impl QuorumRule for Majority {
 
     ghost quorum = { λ x. majority x.n };
 
-    ghost sized = { first_of (Prim.search rules, Prim.grind (arith, Self.row.coded.inj)) };
+    ghost sized = { λ x. (x.low, x.high) };
 
     ghost shares = { λ x. majority_shares x.n };
 

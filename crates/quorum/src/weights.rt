@@ -1,8 +1,7 @@
 //! A rule by weights.
 ghost use Rattle.std.specs.Prelude.{◌≡◌, ◌*◌, ◌<◌, ◌≤◌, length, take, is_ok, IfOk};
-ghost use Rattle.std.proofs.Common.{length-take, arith, rules};
 ghost use Rattle.quorum.specs.Rules.{weight, total, heavy, light, are_weights};
-ghost use Rattle.quorum.specs.Weighing.{heavy_shares, heavy_grows, heavy_whole};
+ghost use Rattle.quorum.specs.Weighing.{front_fits, heavy_shares, heavy_grows, heavy_whole};
 
 use super::{CannotBeMade, ProcessSet, QuorumRule};
 
@@ -84,13 +83,13 @@ impl QuorumRule for Weights {
 
     ghost quorum = { λ x. heavy (take x.n x.each) };
 
-    ghost sized = { first_of (Prim.search rules, Prim.grind (arith, Self.row.coded.inj)) };
+    ghost sized = { λ x. (x.low, x.high) };
 
-    ghost shares = { λ x. heavy_shares x.n (take x.n x.each) (simp length-take (omega arith)) };
+    ghost shares = { λ x. heavy_shares x.n (take x.n x.each) (front_fits x.n x.each) };
 
-    ghost grows = { λ x. heavy_grows x.n (take x.n x.each) (simp length-take (omega arith)) };
+    ghost grows = { λ x. heavy_grows x.n (take x.n x.each) (front_fits x.n x.each) };
 
-    ghost whole = { λ x. heavy_whole x.n (take x.n x.each) (simp length-take (omega arith)) x.heavy };
+    ghost whole = { λ x. heavy_whole x.n (take x.n x.each) (front_fits x.n x.each) x.heavy };
 
     fn size(&self) -> u32 {
         self.n

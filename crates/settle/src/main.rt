@@ -1,4 +1,6 @@
 //! Five houses propose readings of one headword, in a printed store.
+#![tactic(auto)]
+
 mod houses;
 mod leader;
 

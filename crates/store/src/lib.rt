@@ -1,4 +1,6 @@
 //! Stable cells: four for each of nine processes.
+#![tactic(auto)]
+
 ghost use Rattle.std.specs.Prelude.{◌≡◌};
 ghost use Rattle.store.specs.Cells.{Cells, Sound, read_answer, write_answer, written};
 

@@ -1,4 +1,6 @@
 //! The tray, a list in a slice that its owner lends, and the best element of a slice.
+#![tactic(auto)]
+
 ghost use Rattle.std.specs.Prelude.{◌≤◌, length};
 
 pub mod choice;
