@@ -1,7 +1,7 @@
 -- The best kept estimate is one of them, and none has a greater stamp; a sender has its estimate.
 use Rattle.std.proofs.Common.{◌≡◌, ℕ, zero, suc, ◌≤◌, Bool, true, false, ◌&&◌, T, eqb, ltb, leb, List, [], ◌∷◌, map, get_or, is_some, Some, None, Option, refl, ⊎_elim, arith}
 use Rattle.std.specs.Option.{option_to_list}
-use Rattle.std.specs.List.{flat_map, AllByRecursion as All}
+use Rattle.std.specs.List.{flat_map, AllByRecursion}
 use Rattle.std.proofs.lemmas.Bool.{and_parts, eqb-true, ltb-true, or_cases}
 use Rattle.std.proofs.lemmas.Bool.Decides.{nat_tests}
 use Rattle.tray.specs.declared.kinds.Estimate.{Estimate}
@@ -19,7 +19,7 @@ pub some≢none : {A : Type 0} {x : A} {o : Option A} → o ≡ Some x → o ≡
 some≢none p q = let z : ◌≡◌ {A = ℕ} 0 1 = cc in omega arith
 
 -- what holds of each kept one, by its place and in the list of them
-index_all : (P : Estimate → Type 0) (ks : List (Option Estimate)) → ((i : ℕ) (e : Estimate) → get_or ks i None ≡ Some e → P e) → All P (flat_map option_to_list ks)
+index_all : (P : Estimate → Type 0) (ks : List (Option Estimate)) → ((i : ℕ) (e : Estimate) → get_or ks i None ≡ Some e → P e) → AllByRecursion P (flat_map option_to_list ks)
 index_all P [] h = tt
 index_all P (None ∷ ks) h = index_all P ks (λ i. h (suc i))
 index_all P (Some e ∷ ks) h = (h 0 e refl, index_all P ks (λ i. h (suc i)))
@@ -44,7 +44,7 @@ abbrev pub Below : Option Estimate → Estimate → Type 0
 Below None b = Unit {0}
 Below (Some e) b = e.stamp ≤ b.stamp
 
-all_below : (ks : List (Option Estimate)) (b : Estimate) → All (λ x. prefers_estimate b x ≡ true) (flat_map option_to_list ks) → (i : ℕ) → Below (get_or ks i None) b
+all_below : (ks : List (Option Estimate)) (b : Estimate) → AllByRecursion (λ x. prefers_estimate b x ≡ true) (flat_map option_to_list ks) → (i : ℕ) → Below (get_or ks i None) b
 all_below [] b h i = tt
 all_below (None ∷ ks) b h zero = tt
 all_below (None ∷ ks) b h (suc i) = all_below ks b h i

@@ -1,6 +1,6 @@
 -- Every call is refused for the cause with the lowest number.
 use Rattle.std.proofs.Common.{◌≡◌, ℕ, ◌≤◌, Bool, true, false, cond, not, ◌&&◌, eqb, leb, List, [], ◌∷◌, length, is_some, is_ok, Some, None, Ok, Err, Option, Result, sym, refl, subst, inl, inr, le_refl}
-use Rattle.std.specs.List.{AllByRecursion as All}
+use Rattle.std.specs.List.{AllByRecursion}
 use Rattle.std.proofs.lemmas.Bool.{and_parts, leb-true, true≢false}
 use Rattle.tray.specs.Items.{element}
 use Rattle.process.specs.declared.memory.Memory.{Memory}
@@ -24,7 +24,7 @@ use Rattle.agreement.proofs.Apart.{apart}
 abbrev Above : Refusal → List Cause → Type 0
 Above e cs = every (λ c. leb (number e) (number c.0)) cs ≡ true
 
-above : (e : Refusal) (cs : List Cause) → Above e cs → All (λ c. c.1 ≡ true → number e ≤ number c.0) cs
+above : (e : Refusal) (cs : List Cause) → Above e cs → AllByRecursion (λ c. c.1 ≡ true → number e ≤ number c.0) cs
 above e [] h = tt
 above e (c ∷ cs) h =
     let both = and_parts (leb (number e) (number c.0)) (every (λ d. leb (number e) (number d.0)) cs) h in

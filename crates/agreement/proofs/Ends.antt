@@ -1,6 +1,6 @@
 -- The promise.
 use Rattle.std.proofs.Common.{◌≡◌, ℕ, suc, ◌<◌, ◌≤◌, Bool, true, List, [], ◌∷◌, sym, refl, ◌∙◌, inl, inr, ⊎_elim, arith}
-use Rattle.std.specs.List.{AllByRecursion as All}
+use Rattle.std.specs.List.{AllByRecursion}
 use Rattle.std.proofs.lemmas.Bool.{cases_lt}
 use Rattle.quorum.specs.Laws.{has, Shares}
 use Rattle.store.specs.Cells.{Cells}
@@ -15,7 +15,7 @@ use Rattle.agreement.proofs.Verdicts.{Holding}
 use Rattle.agreement.proofs.Runs.{Fits, ran, down_up}
 
 -- what some element has, with what each has
-of_some : {A : Type 0} {P Q : A → Type 0} {B : Type 0} → ((x : A) → P x → Q x → B) → (xs : List A) → All P xs → Ever Q xs → B
+of_some : {A : Type 0} {P Q : A → Type 0} {B : Type 0} → ((x : A) → P x → Q x → B) → (xs : List A) → AllByRecursion P xs → Ever Q xs → B
 of_some f [] h i = absurd i
 of_some f (x ∷ xs) h (inl i) = f x h.0 i
 of_some f (x ∷ xs) h (inr i) = of_some f xs h.1 i
@@ -44,7 +44,7 @@ module _ (R : Rule) (shares : Shares R.size R.enough) (V : Votes) (C : Cells) (S
       (λ (l : d.stamp ≤ c.stamp). sym (later_choice w v d c l))
       (cases_lt c.stamp d.stamp)
 
-  agreement : (seen : List World) → All (Fits R V) seen → Agreement R.size R.enough seen
+  agreement : (seen : List World) → AllByRecursion (Fits R V) seen → Agreement R.size R.enough seen
   agreement seen fit = record {
     one_decision = λ v w a b. same_choice v w (settled v a) (settled w b);
     proposed = all_map (λ t f. f.traced) seen fit;

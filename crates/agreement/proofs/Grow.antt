@@ -1,6 +1,6 @@
 -- What growing keeps.
 use Rattle.std.proofs.Common.{◌≡◌, ℕ, suc, ◌<◌, Bool, cond, eqb, List, [], ◌∷◌, Option, inl, inr, ⊎_elim, le_trans, le_refl, arith}
-use Rattle.std.specs.List.{AllByRecursion as All}
+use Rattle.std.specs.List.{AllByRecursion}
 use Rattle.std.proofs.lemmas.Bool.{eqb-true, eqb-false, cond_both}
 use Rattle.store.specs.Cells.{Cells}
 use Rattle.process.specs.declared.message.Kind.{Kind}
@@ -9,7 +9,7 @@ use Rattle.tray.specs.declared.kinds.Estimate.{Estimate}
 use Rattle.process.specs.declared.memory.Memory.{Memory}
 use Rattle.agreement.proofs.Facts.{Rule, Votes, rnd, Known, Grows, Offer, coord, Safe, Chosen, GoodAs, Good, Offers, Voters, Lasting, Fine}
 
-pub all_map : {A : Type 0} {P Q : A → Type 0} → ((x : A) → P x → Q x) → (xs : List A) → All P xs → All Q xs
+pub all_map : {A : Type 0} {P Q : A → Type 0} → ((x : A) → P x → Q x) → (xs : List A) → AllByRecursion P xs → AllByRecursion Q xs
 all_map f [] h = tt
 all_map f (x ∷ xs) h = (f x h.0, all_map f xs h.1)
 

@@ -1,6 +1,6 @@
 -- All that is seen in a run fits the votes cast in it.
 use Rattle.std.proofs.Common.{◌≡◌, ℕ, zero, suc, ◌-◌, ◌≤◌, min, ltb, List, [], ◌∷◌, ◌++◌, length, get_or, take, drop, set, Some, None, sym, refl, ap, ◌∙◌, subst, inl, inr, ⊎_elim, le_refl, arith}
-use Rattle.std.specs.List.{AllByRecursion as All}
+use Rattle.std.specs.List.{AllByRecursion}
 use Rattle.std.proofs.lemmas.List.{take_all}
 use Rattle.std.proofs.lemmas.Bool.{cond_both}
 use Rattle.store.specs.Cells.{Cells}
@@ -39,12 +39,12 @@ module _ (R : Rule) where
   good_decide : (V : Votes) (C : Cells) (k : Kind) (m : Message) → k ≡ Kind.Decide → GoodAs R V C k m → Chosen R V m.reading
   good_decide V C k m e h = rw e at h
 
-  announced : (V : Votes) (C : Cells) (v : ℕ) (ms : List Message) → All (Good R V C) ms → Ever (λ m. (m.kind ≡ Kind.Decide) × (m.reading ≡ v)) ms → Chosen R V v
+  announced : (V : Votes) (C : Cells) (v : ℕ) (ms : List Message) → AllByRecursion (Good R V C) ms → Ever (λ m. (m.kind ≡ Kind.Decide) × (m.reading ≡ v)) ms → Chosen R V v
   announced V C v [] h i = absurd i
   announced V C v (m ∷ ms) h (inl i) = rw i.1 at (good_decide V C m.kind m i.0 h.0)
   announced V C v (m ∷ ms) h (inr i) = announced V C v ms h.1 i
 
-  fits_now : (V : Votes) (t : World) → Sound R V t.cells → All (Good R V t.cells) t.box → Fits V t
+  fits_now : (V : Votes) (t : World) → Sound R V t.cells → AllByRecursion (Good R V t.cells) t.box → Fits V t
   fits_now V t S tray = record {
     votes = λ p v r h. S.shown p v r h;
     chosen = λ v. ⊎_elim (λ d. S.settled d.0 v d.1) (announced V t.cells v t.box tray);
@@ -61,15 +61,15 @@ module _ (R : Rule) where
   pub record Did (places p : ℕ) (P : Votes → Cells → Type 0) (acts : List Action) (V : Votes) (t : World) : Type 1 where
     pub cast : Votes
     pub sound : Sound R cast (performed places p t acts).cells
-    pub tray : All (Good R cast (performed places p t acts).cells) (performed places p t acts).box
+    pub tray : AllByRecursion (Good R cast (performed places p t acts).cells) (performed places p t acts).box
     pub grows : Grows V t.cells cast (performed places p t acts).cells
-    pub seen : All (Fits cast) (moments places p t acts)
+    pub seen : AllByRecursion (Fits cast) (moments places p t acts)
     pub holds : P cast (performed places p t acts).cells
     pub apart : (q : ℕ) → (q ≡ p → ⊥) → ((v s : ℕ) → cast q v s → V q v s) × ((performed places p t acts).cells q 2 ≡ t.cells q 2)
 
   -- one action, then the others
   joined : (places p : ℕ) (P : Votes → Cells → Type 0) (a : Action) (acts : List Action) (V : Votes) (t : World)
-      → (act places p t a).cells ≡ cells_after R t.cells p a → Sound R V t.cells → All (Good R V t.cells) t.box → May R V t.cells p a
+      → (act places p t a).cells ≡ cells_after R t.cells p a → Sound R V t.cells → AllByRecursion (Good R V t.cells) t.box → May R V t.cells p a
       → Did places p P acts (votes_after R V p a) (act places p t a) → Did places p P (a ∷ acts) V t
   joined places p P a acts V t same S tray m d =
       let g : Grows V t.cells (votes_after R V p a) (act places p t a).cells = subst (λ (D : Cells). Grows V t.cells (votes_after R V p a) D) (sym same) (grows_act R V t.cells p a m) in
@@ -88,7 +88,7 @@ module _ (R : Rule) where
       }
 
   did : (places p : ℕ) (P : Votes → Cells → Type 0) (acts : List Action) (V : Votes) (t : World)
-      → Sound R V t.cells → All (Good R V t.cells) t.box → Run R P p acts V t.cells → Did places p P acts V t
+      → Sound R V t.cells → AllByRecursion (Good R V t.cells) t.box → Run R P p acts V t.cells → Did places p P acts V t
   did places p P [] V t S tray h = record {
     cast = V;
     sound = S;
@@ -107,14 +107,14 @@ module _ (R : Rule) where
   did places p P (Send m ∷ acts) V t S tray h =
       joined places p P (Send m) acts V t refl S tray h.0
       (did places p P acts V (act places p t (Send m)) S
-      (cond_both (ltb (length t.box) places) (t.box ++ (m ∷ [])) t.box (All (Good R V t.cells))
+      (cond_both (ltb (length t.box) places) (t.box ++ (m ∷ [])) t.box (AllByRecursion (Good R V t.cells))
       (λ _. All-append (Good R V t.cells) t.box (m ∷ []) tray (h.0, tt)) (λ _. tray))
       (h.1 S (grows_refl V t.cells)))
 
   pub record Kept (V : Votes) (seen : List World) (s : State) : Type 1 where
     pub cast : Votes
     pub votes : (q v s : ℕ) → V q v s → cast q v s
-    pub fit : All (Fits cast) seen
+    pub fit : AllByRecursion (Fits cast) seen
     pub holding : Holding R cast s
 
   -- the records after actions of p that leave it with o
@@ -135,7 +135,7 @@ module _ (R : Rule) where
   fewer {V} {C} p records fine i μ =
       at_put (λ j k. k ≡ Up μ → Fine R V C (suc j) μ) records (p - 1) i Down Down (λ e. down_up e) (λ j e. down_up e) (λ j e. fine i μ e)
 
-  all_without : (P : Message → Type 0) (ms : List Message) (i : ℕ) → All P ms → All P (without ms i)
+  all_without : (P : Message → Type 0) (ms : List Message) (i : ℕ) → AllByRecursion P ms → AllByRecursion P (without ms i)
   all_without P ms zero h = h
   all_without P ms (suc i) h = All-append P (take i ms) (drop (suc i) ms) (All-take P i ms h) (All-drop P (suc i) ms h)
 
@@ -186,7 +186,7 @@ module _ (R : Rule) where
     pub cast : Votes
     pub cells : Cells
     pub votes : (q v s : ℕ) → V q v s → cast q v s
-    pub fit : All (Fits cast) seen
+    pub fit : AllByRecursion (Fits cast) seen
     pub sound : Sound R cast cells
 
 -- no call changes the rule

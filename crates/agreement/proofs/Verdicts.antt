@@ -1,6 +1,6 @@
 -- What each call plans may be done.
 use Rattle.std.proofs.Common.{◌≡◌, ℕ, zero, suc, ◌-◌, ◌≤◌, Bool, true, false, not, ◌&&◌, T, eqb, ltb, leb, List, [], ◌∷◌, length, get_or, set, is_some, Some, None, Ok, Option, Result, refl, subst, inl, inr, le_refl, arith}
-use Rattle.std.specs.List.{AllByRecursion as All, slice_get}
+use Rattle.std.specs.List.{AllByRecursion, slice_get}
 use Rattle.std.proofs.lemmas.Bool.{cond_both, and_parts, eqb-true, ltb-true}
 use Rattle.store.specs.declared.content.Content.{Content}
 use Rattle.store.specs.Cells.{Cells}
@@ -38,12 +38,12 @@ none_of : {A : Type 0} (o : Option A) → not (is_some o) ≡ true → o ≡ Non
 none_of None e = refl
 none_of (Some x) e = false_true e
 
-of_nth : (P : Message → Type 0) (i : ℕ) (ms : List Message) (m : Message) → All P ms → slice_get ms i ≡ Some m → P m
+of_nth : (P : Message → Type 0) (i : ℕ) (ms : List Message) (m : Message) → AllByRecursion P ms → slice_get ms i ≡ Some m → P m
 of_nth P i [] m h e = absurd (some≢none e refl)
 of_nth P zero (x ∷ xs) m h e = let z : x ≡ m = cc in subst P z h.0
 of_nth P (suc i) (x ∷ xs) m h e = of_nth P i xs m h.1 e
 
-of_place : (P : Message → Type 0) (i : ℕ) (ms : List Message) (m : Message) → All P ms → element ms i ≡ Some m → P m
+of_place : (P : Message → Type 0) (i : ℕ) (ms : List Message) (m : Message) → AllByRecursion P ms → element ms i ≡ Some m → P m
 of_place P zero ms m h e = absurd (some≢none e refl)
 of_place P (suc i) ms m h e = of_nth P i ms m h e
 
@@ -259,7 +259,7 @@ rule_of s = record { size = s.size; enough = s.enough }
 -- between calls
 pub record Holding (R : Rule) (V : Votes) (s : State) : Type 0 where
   pub sound : Sound R V s.cells
-  pub tray : All (Good R V s.cells) s.box
+  pub tray : AllByRecursion (Good R V s.cells) s.box
   pub fine : (i : ℕ) (μ : Memory) → get_or s.statuses i Down ≡ Up μ → Fine R V s.cells (suc i) μ
 
 module _ (V : Votes) (s : State) (H : Holding (rule_of s) V s) where

@@ -1,6 +1,6 @@
 -- Why a call may be refused: its causes, each a test on its own, and which of them is told.
 use Rattle.std.specs.Prelude.{◌≡◌, ℕ, ◌≤◌, Bool, true, false, not, ◌&&◌, List, [], ◌∷◌, length, is_some, is_ok, Some, None, Ok, Err, Option, Result, ◌==◌, ◌≢◌}
-use Rattle.std.specs.List.{AllByRecursion as All}
+use Rattle.std.specs.List.{AllByRecursion}
 use Rattle.tray.specs.Items.{element}
 use Rattle.process.specs.declared.message.Message.{Message}
 use Rattle.process.specs.declared.memory.Memory.{Memory}
@@ -81,8 +81,8 @@ causes (Crash p) s = (NoSuchProcess, not (member s p)) ∷ (ProcessDown, is_down
 
 -- a call is accepted if there is no cause against it, and else refused for the one with the lowest number
 abbrev pub Lowest : List Cause → Result ℕ Refusal → Type 0
-Lowest cs (Ok k) = All (λ c. c.1 ≡ false) cs
-Lowest cs (Err e) = Ever (λ c. (c.0 ≡ e) × (c.1 ≡ true)) cs × All (λ c. c.1 ≡ true → number e ≤ number c.0) cs
+Lowest cs (Ok k) = AllByRecursion (λ c. c.1 ≡ false) cs
+Lowest cs (Err e) = Ever (λ c. (c.0 ≡ e) × (c.1 ≡ true)) cs × AllByRecursion (λ c. c.1 ≡ true → number e ≤ number c.0) cs
 
 -- the addressee of a message, 0 for no message
 abbrev pub addressee_of : Option Message → ℕ

@@ -1,6 +1,6 @@
 -- The promise of a panel, over everything seen in a run.
 use Rattle.std.specs.Prelude.{◌≡◌, ℕ, suc, ◌<◌, ◌≤◌, Bool, true, ◌⊎◌, List, [], ◌∷◌, replicate, Some, None, Option}
-use Rattle.std.specs.List.{AllByRecursion as All}
+use Rattle.std.specs.List.{AllByRecursion}
 use Rattle.quorum.specs.Laws.{has, Shares}
 use Rattle.agreement.specs.declared.call.Call.{Call}
 use Rattle.store.specs.declared.content.Content.{Content}
@@ -50,7 +50,7 @@ pub record Agreement (n : ℕ) (enough : List Bool → Bool) (seen : List World)
   -- all readings that ever stand in a decision cell or in a DECIDE message of the tray are one and the same
   pub one_decision : (v w : ℕ) → Ever (Settled v) seen → Ever (Settled w) seen → v ≡ w
   -- whenever a reading stands in a decision or pair cell, it stands in some process's proposal cell
-  pub proposed : All (λ t. ((v : ℕ) → Decided v t → Proposed v t) × ((p v r : ℕ) → Bears p v r t → Proposed v t)) seen
+  pub proposed : AllByRecursion (λ t. ((v : ℕ) → Decided v t → Proposed v t) × ((p v r : ℕ) → Bears p v r t → Proposed v t)) seen
   -- once the processes whose pair cell ever bore stamp r are enough, all pairs of stamp r or higher bear one reading
   pub held : (r : ℕ) (Q : List Bool) → enough Q ≡ true
       → ((k : ℕ) → k < n → has Q k ≡ true → (v : ℕ) × Ever (Bears (suc k) v r) seen)

@@ -7,4 +7,4 @@ pub invariant_of-self : goal.invariant_of-self
 invariant_of-self c =
     let t = c.args.self.now in
     let p = c.args.p in
-    (length-set t.records (p.number - 1) c.args.status ∙ t.long, (ranged_put t.records p.number c.args.status p.low t.ranged c.requires, tt))
+    record { long = length-set t.records (p.number - 1) c.args.status ∙ t.long; ranged = ranged_put t.records p.number c.args.status p.low t.ranged c.requires }
