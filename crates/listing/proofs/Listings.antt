@@ -1,5 +1,5 @@
 -- Lists written one entry after the other.
-use Rattle.std.proofs.Common.{◌≡◌, ℕ, suc, ◌+◌, ◌-◌, ◌<◌, ◌≤◌, Bool, true, false, cond, List, [], ◌∷◌, ◌++◌, length, get_or, take, set, is_ok, Some, None, codes, Option, Result, sym, refl, ap, ◌∙◌, append_assoc, append-nil, add-zero, add-suc, suc-add, arith}
+use Rattle.std.proofs.Common.{◌≡◌, ℕ, suc, ◌+◌, ◌<◌, ◌≤◌, Bool, true, false, cond, List, [], ◌∷◌, ◌++◌, length, get_or, take, set, is_ok, Some, None, codes, Option, Result, sym, refl, ap, ◌∙◌, append_assoc, append-nil, add-zero, add-suc, suc-add, arith}
 use Rattle.listing.specs.Lists.{list_text, members_from, slots_text, vacant}
 use Rattle.std.proofs.lemmas.List.{length-take-le, take_all, take_more, take_more_set}
 use Rattle.std.proofs.lemmas.Bool.{false≢true}

@@ -1,4 +1,6 @@
 //! The text of what is told of a sitting.
+#![tactic(auto)]
+
 pub mod lines;
 mod listed;
 pub mod record;

@@ -1,5 +1,5 @@
 -- What is written down reads back.
-use Rattle.std.proofs.Common.{◌≡◌, ℕ, ◌+◌, ◌-◌, ◌^◌, ◌<◌, true, false, eqb, List, [], ◌∷◌, ◌++◌, map, length, Some, None, codes, decimal, Option, refl, ap, ◌∙◌, append-nil, arith, rules}
+use Rattle.std.proofs.Common.{◌≡◌, ℕ, ◌^◌, ◌<◌, true, false, eqb, List, [], ◌∷◌, ◌++◌, map, length, Some, None, codes, decimal, Option, refl, ap, ◌∙◌, append-nil, arith, rules}
 use Rattle.script.proofs.Figures.{number_is}
 use Rattle.script.proofs.Splits.{filled_first}
 use Rattle.script.specs.Calls.{cut, cut_number, epoch, lone_number}

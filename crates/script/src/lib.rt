@@ -1,4 +1,6 @@
 //! Scripts of a sitting: what a line of one asks for.
+#![tactic(auto)]
+
 pub mod calls;
 pub mod commands;
 pub mod laws;
