@@ -82,7 +82,7 @@ fn refuse<W: Write>(refusal: CannotBeMade, out: &mut W) -> io::Result<()> {
 
 // A sitting, from its first line on.
 fn sit<W: Write>(rt: &HostRuntime, out: &mut W) -> io::Result<()> {
-    let mut script = Script::new(rt.alloc(), rt.stdin());
+    let mut script = Script::new(rt.alloc(), rt.stdin())?;
     match await_rule(&mut script, out)? {
         None => Ok(()),
         Some(RuleLine::Majority(n)) => match Majority::new(n) {
@@ -98,7 +98,9 @@ fn sit<W: Write>(rt: &HostRuntime, out: &mut W) -> io::Result<()> {
 }
 
 fn main(rt: HostRuntime) {
-    let mut out = BufWriter::new(rt.stdout());
+    let Ok(mut out) = BufWriter::new(rt.alloc(), rt.stdout()) else {
+        return;
+    };
     let _ = sit(&rt, &mut out);
     let _ = out.flush();
 }

@@ -18,14 +18,14 @@ pub struct Script {
 
 impl Script {
     // Before the first line.
-    pub fn new(heap: Global, input: Stdin) -> Script
-        ensures { result.number ≡ 0 }
+    pub fn new(heap: Global, input: Stdin) -> io::Result<Script>
+        ensures { IfOk result (λ script. script.number ≡ 0) }
     {
-        Script {
-            input: BufReader::new(input),
+        Ok(Script {
+            input: BufReader::new(heap, input)?,
             bytes: Vec::new(heap),
             number: 0,
-        }
+        })
     }
 
     // Reads one line; false at the end of the input.
