@@ -1,4 +1,6 @@
 //! One headword settled from start to end: five houses, a crash, and messages that are lost and repeated.
+#![tactic(auto)]
+
 ghost use Rattle.std.specs.Prelude.{◌≡◌, IfOk};
 ghost use Rattle.store.specs.Cells.{absent};
 ghost use Rattle.settlement.specs.Settled.{OnlyDecision};

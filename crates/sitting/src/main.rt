@@ -1,4 +1,6 @@
 //! Plays a script of calls on a settling panel.
+#![tactic(auto)]
+
 mod files;
 mod play;
 mod reader;

@@ -1,4 +1,6 @@
 //! Examples of a panel's calls, run as tests.
+#![tactic(auto)]
+
 #[cfg(test)]
 mod tests {
     use agreement::call::{Call, told};
