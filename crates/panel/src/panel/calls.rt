@@ -53,8 +53,8 @@ fn is_early(message: &Message, memory: &Memory) -> bool
     }
 }
 
-// The promise of each call is one equation: its answer, and panel and tray after it (`outcome-in`), are what
-// the verdict on the call comes to at what stood before (`state-in`), carried out (`done`). Refused calls are
+// The promise of each call is one equation: its answer, and panel and tray after it (`outcome_in`), are what
+// the verdict on the call comes to at what stood before (`state_in`), carried out (`done`). Refused calls are
 // part of it. What stands in front of a panel there is what its rule and its store mean.
 impl<S: Store, R: QuorumRule> Panel<S, R> {
     // A panel over a store and a rule; every process is down.
