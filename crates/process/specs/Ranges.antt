@@ -1,5 +1,5 @@
 -- What numbers a memory may hold, and what actions a process may do.
-use Rattle.std.specs.Prelude.{ℕ, Bool, true, cond, ◌&&◌, leb, List, [], ◌∷◌, Some, None, Option, ◌==◌, nat_le}
+use Rattle.std.specs.Prelude.{ℕ, Bool, true, cond, ◌&&◌, List, [], ◌∷◌, Some, None, Option, ◌==◌, nat_le}
 use Rattle.store.specs.Ranges.{is_cell, fits}
 use Rattle.tray.specs.declared.kinds.Estimate.{Estimate}
 use Rattle.process.specs.declared.message.Message.{Message}
@@ -40,5 +40,5 @@ round_fits y =
 -- a memory in range; one that is in no round may hold any round and reading
 abbrev pub memory_fits : ℕ → ℕ → Memory → Bool
 memory_fits n p y =
-    nat_le y.heard 999999 && any_there (λ k. leb k 999999) y.epoch && every (any_there (last_fits n p)) y.last
+    nat_le y.heard 999999 && any_there (λ k. nat_le k 999999) y.epoch && every (any_there (last_fits n p)) y.last
     && cond (is_active y.phase) (round_fits y) true

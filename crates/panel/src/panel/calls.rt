@@ -1,5 +1,5 @@
 //! The seven calls.
-ghost use Rattle.std.specs.Prelude.{◌≡◌, ◌-◌, ◌≤◌, true, ◌&&◌, leb, length, replicate, is_some, if◌then◌else◌, Some, None, Ok, Err, nat_le, slice_index_or};
+ghost use Rattle.std.specs.Prelude.{◌≡◌, ◌-◌, ◌≤◌, true, ◌&&◌, length, replicate, is_some, if◌then◌else◌, Some, None, Ok, Err, nat_le, slice_index_or};
 ghost use Rattle.agreement.specs.declared.call.Refusal.TheVariants.{CutTooLarge};
 ghost use Rattle.agreement.specs.Calls.{again_of, allowed, crash_of, cut_fits, deliver_of, done, early, finished, look_of, lose_of, propose_of, recover_of};
 ghost use Rattle.tray.specs.declared.Tray.{Tray as Waiting};
@@ -77,7 +77,7 @@ impl<S: Store, R: QuorumRule> Panel<S, R> {
 
     // A process's record; none where the rule has no such process.
     pub fn status(&self, p: u32) -> Option<Status>
-        ensures { result ≡ (if leb 1 p && nat_le p (R.QuorumRule.processes self.now.rule) then Some (slice_index_or self.now.table.records (p - 1) Down) else None) }
+        ensures { result ≡ (if nat_le 1 p && nat_le p (R.QuorumRule.processes self.now.rule) then Some (slice_index_or self.now.table.records (p - 1) Down) else None) }
     {
         let Some(id) = ProcessId::new(&self.rule, p) else {
             return None;
