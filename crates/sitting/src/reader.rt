@@ -1,7 +1,7 @@
 //! The lines of a script, read one at a time.
-ghost use Rattle.std.specs.Prelude.{◌≡◌, ◌+◌, ◌-◌, ◌^◌, min, true, false, IfOk, OnOk};
+ghost use Rattle.std.specs.Prelude.{◌≡◌, ◌+◌, ◌-◌, ◌^◌, min, true, false, IfOk, OnOk, length, nat_lt, vec_items};
 ghost use Rattle.script.specs.Words.{passed_over};
-ghost use Rattle.sitting.specs.Scripts.{text_of};
+ghost use Rattle.sitting.specs.Scripts.{IsOneLine, text_of};
 
 use script::words::{is_passed_over, without_feed};
 use std::alloc::Global;
@@ -28,9 +28,11 @@ impl Script {
         })
     }
 
-    // Reads one line; false at the end of the input.
+    // Reads one line in the place of the one before; false at the end of the input.
     fn read(&mut self) -> io::Result<bool>
-        ensures { OnOk result (self.new.number ≡ min (self.old.number + 1) (2 ^ 64 - 1)) }
+        ensures number { OnOk result (self.new.number ≡ min (self.old.number + 1) (2 ^ 64 - 1)) }
+        ensures line { IsOneLine self.new }
+        ensures more { IfOk result (λ more. more ≡ nat_lt 0 (length (vec_items self.new.bytes))) }
     {
         self.bytes.clear();
         let count = self.input.read_until(b'\n', &mut self.bytes)?;
@@ -40,7 +42,8 @@ impl Script {
 
     // Reads on to the next line that is neither empty nor a comment; false at the end of the input.
     pub fn advance(&mut self) -> io::Result<bool>
-        ensures { IfOk result (λ more. more ≡ true → passed_over (text_of self.new) ≡ false) }
+        ensures played { IfOk result (λ more. more ≡ true → passed_over (text_of self.new) ≡ false) }
+        ensures line { IfOk result (λ more. more ≡ true → IsOneLine self.new) }
     {
         for _ in 0..u64::MAX {
             if !self.read()? {
