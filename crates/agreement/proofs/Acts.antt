@@ -1,5 +1,5 @@
 -- Each action that may be done keeps what holds of votes and cells.
-use Rattle.std.proofs.Common.{◌≡◌, ℕ, zero, suc, ◌≤◌, ◌&&◌, eqb, Some, None, sym, refl, ◌∙◌, inl, inr, ⊎_elim, le_trans, le_of_eq, le_refl}
+use Rattle.std.proofs.Common.{◌≡◌, ℕ, ◌≤◌, ◌&&◌, eqb, Some, None, sym, refl, ◌∙◌, inl, inr, ⊎_elim, le_trans, le_of_eq, le_refl}
 use Rattle.std.proofs.lemmas.Bool.{and_right, ne_eqb, cond-false}
 use Rattle.store.specs.declared.content.Content.{Content}
 use Rattle.store.specs.Cells.{Cells, put}
@@ -8,6 +8,8 @@ use Rattle.process.specs.declared.memory.Action.TheVariants.{Write, Send}
 use Rattle.agreement.specs.Promise.{Holds, Marked}
 use Rattle.agreement.proofs.Facts.{Rule, Votes, plus, number_in, stamp_in, rnd, Grows, coord, Chosen, Sound, MayEnter, MayVote, MayWrite, May, votes_by, votes_after, cells_after}
 use Rattle.agreement.proofs.Grow.{grows_refl, known_grows, safe_grows, chosen_grows, at_cell}
+use Rattle.store.specs.declared.content.CellName.{CellName}
+use Rattle.store.specs.CellNames.{cell_number}
 
 module _ (R : Rule) (V : Votes) (C : Cells) (p : ℕ) (x : Content) where
   -- the proposal
@@ -114,42 +116,37 @@ module _ (R : Rule) (V : Votes) (C : Cells) (p : ℕ) (x : Content) where
       alone q v a = ⊎_elim (λ b. S.one q (coord R x.stamp) v x.number x.stamp a b) (λ b. absurd (b.1 q v a)) m.backed
 
 module _ (R : Rule) (V : Votes) (C : Cells) (p : ℕ) where
-  grows_write : (x : Content) (c : ℕ) → MayWrite R V C p x c → Grows V C (votes_by R c V p x) (put C p c x)
-  grows_write x zero m = absurd m
-  grows_write x (suc zero) m = grows_proposal R V C p x m
-  grows_write x (suc (suc zero)) m = grows_round R V C p x m
-  grows_write x (suc (suc (suc zero))) m = grows_pair R V C p x m
-  grows_write x (suc (suc (suc (suc zero)))) m = grows_decision R V C p x
-  grows_write x (suc (suc (suc (suc (suc c))))) m = absurd m
+  grows_write : (x : Content) (c : CellName) → MayWrite R V C p x c → Grows V C (votes_by R c V p x) (put C p (cell_number c) x)
+  grows_write x CellName.Proposal m = grows_proposal R V C p x m
+  grows_write x CellName.Round m = grows_round R V C p x m
+  grows_write x CellName.Pair m = grows_pair R V C p x m
+  grows_write x CellName.Decision m = grows_decision R V C p x
 
   pub grows_act : (a : Action) → May R V C p a → Grows V C (votes_after R V p a) (cells_after R C p a)
   grows_act (Write c x) m = grows_write x c m
   grows_act (Send k) m = grows_refl V C
 
-  sound_write : (x : Content) (c : ℕ) → Sound R V C → MayWrite R V C p x c → Sound R (votes_by R c V p x) (put C p c x)
-  sound_write x zero S m = absurd m
-  sound_write x (suc zero) S m = sound_proposal R V C p x S m
-  sound_write x (suc (suc zero)) S m = sound_round R V C p x S m
-  sound_write x (suc (suc (suc zero))) S m = sound_pair R V C p x S m
-  sound_write x (suc (suc (suc (suc zero)))) S m = sound_decision R V C p x S m
-  sound_write x (suc (suc (suc (suc (suc c))))) S m = absurd m
+  sound_write : (x : Content) (c : CellName) → Sound R V C → MayWrite R V C p x c → Sound R (votes_by R c V p x) (put C p (cell_number c) x)
+  sound_write x CellName.Proposal S m = sound_proposal R V C p x S m
+  sound_write x CellName.Round S m = sound_round R V C p x S m
+  sound_write x CellName.Pair S m = sound_pair R V C p x S m
+  sound_write x CellName.Decision S m = sound_decision R V C p x S m
 
   pub sound_act : (a : Action) → Sound R V C → May R V C p a → Sound R (votes_after R V p a) (cells_after R C p a)
   sound_act (Write c x) S m = sound_write x c S m
   sound_act (Send k) S m = S
 
   -- an action of p casts no vote of another, and leaves another's round
-  apart_by : (x : Content) (c q : ℕ) → (q ≡ p → ⊥) → (v s : ℕ) → votes_by R c V p x q v s → V q v s
-  apart_by x zero q e v s h = h
-  apart_by x (suc zero) q e v s h = h
-  apart_by x (suc (suc zero)) q e v s h = h
-  apart_by x (suc (suc (suc zero))) q e v s h = ⊎_elim (λ k. k) (λ k. absurd (e k.0)) h
-  apart_by x (suc (suc (suc (suc c)))) q e v s h = h
+  apart_by : (x : Content) (c : CellName) (q : ℕ) → (q ≡ p → ⊥) → (v s : ℕ) → votes_by R c V p x q v s → V q v s
+  apart_by x CellName.Proposal q e v s h = h
+  apart_by x CellName.Round q e v s h = h
+  apart_by x CellName.Pair q e v s h = ⊎_elim (λ k. k) (λ k. absurd (e k.0)) h
+  apart_by x CellName.Decision q e v s h = h
 
   pub vote_apart : (a : Action) (q : ℕ) → (q ≡ p → ⊥) → (v s : ℕ) → votes_after R V p a q v s → V q v s
   vote_apart (Write c x) q e v s h = apart_by x c q e v s h
   vote_apart (Send k) q e v s h = h
 
   pub round_apart : (a : Action) (q : ℕ) → (q ≡ p → ⊥) → cells_after R C p a q 2 ≡ C q 2
-  round_apart (Write c x) q e = cond-false (eqb 2 c && eqb q p) (Some x) (C q 2) (and_right (eqb 2 c) (eqb q p) (ne_eqb q p e))
+  round_apart (Write c x) q e = cond-false (eqb 2 (cell_number c) && eqb q p) (Some x) (C q 2) (and_right (eqb 2 (cell_number c)) (eqb q p) (ne_eqb q p e))
   round_apart (Send k) q e = refl

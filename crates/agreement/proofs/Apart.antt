@@ -1,6 +1,6 @@
 -- A call leaves every process alone but the one that it is about.
-use Rattle.std.proofs.Common.{◌≡◌, ℕ, ◌-◌, ◌≤◌, Bool, true, false, cond, not, ◌&&◌, eqb, List, [], ◌∷◌, length, get_or, take, set, is_some, Some, None, Ok, Err, Option, Result, refl, ap, ◌∙◌, arith, get_or-set_other}
-use Rattle.std.proofs.lemmas.Bool.{ne_eqb}
+use Rattle.std.proofs.Common.{◌≡◌, ℕ, ◌-◌, ◌≤◌, Bool, true, false, not, ◌&&◌, eqb, List, [], ◌∷◌, length, get_or, take, set, is_some, Some, None, Ok, Err, Option, Result, refl, ap, ◌∙◌, arith, get_or-set_other}
+use Rattle.std.proofs.lemmas.Bool.{and_right, cond-false, ne_eqb}
 use Rattle.tray.specs.Items.{element}
 use Rattle.process.specs.declared.memory.Action.{Action}
 use Rattle.process.specs.declared.memory.Action.TheVariants.{Write, Send}
@@ -12,22 +12,18 @@ use Rattle.process.specs.Looks.{epochs_fit, look}
 use Rattle.process.specs.Messages.{is_reading, well_formed}
 use Rattle.process.specs.Phases.{is_done}
 use Rattle.process.specs.Rounds.{Step}
-use Rattle.agreement.specs.declared.call.Call.{Call}
+use Rattle.agreement.specs.Lists.{PanelCall}
 use Rattle.agreement.specs.declared.call.Call.TheVariants.{Propose, Recover, Look, Deliver, Again, Lose, Crash}
 use Rattle.agreement.specs.declared.call.Refusal.{Refusal}
 use Rattle.agreement.specs.Calls.{State, Verdict, again_at, allowed, carried, crash_at, cut_fits, deliver_at, deliver_it, early, ends, if_step, is_idle, look_at, member, need, propose_at, recover_at, refuse, perform, put_down, drop_message, status, verdict, world}
 use Rattle.agreement.specs.Causes.{Apart, actor, addressee_of}
 use Rattle.agreement.specs.Worlds.{World, act, performed}
 use Rattle.agreement.proofs.Ranges.{ends_of, within}
-
-and_false : (a : Bool) → a && false ≡ false
-and_false true = refl
-and_false false = refl
+use Rattle.store.specs.CellNames.{cell_number}
 
 module _ (places p q d : ℕ) (other : q ≡ p → ⊥) where
   act_apart : (w : World) (a : Action) → (act places p w a).cells q d ≡ w.cells q d
-  act_apart w (Write c v) =
-      ap (λ b. cond (eqb d c && b) (Some v) (w.cells q d)) (ne_eqb q p other) ∙ ap (λ b. cond b (Some v) (w.cells q d)) (and_false (eqb d c))
+  act_apart w (Write c v) = cond-false (eqb d (cell_number c) && eqb q p) (Some v) (w.cells q d) (and_right (eqb d (cell_number c)) (eqb q p) (ne_eqb q p other))
   act_apart w (Send m) = refl
 
   performed_apart : (acts : List Action) (w : World) → (performed places p w acts).cells q d ≡ w.cells q d
@@ -109,7 +105,7 @@ module _ (s : State) where
   named : (p : ℕ) (cut : Option ℕ) (v : Verdict) → (1 ≤ p → About v p) → About (need (cut_fits cut) Refusal.CutTooLarge (need (member s p) Refusal.NoSuchProcess v)) p
   named p cut v h = after (cut_fits cut) _ _ p (λ _. after (member s p) _ v p (λ m. h (within 1 s.size p m).0))
 
-  about : (c : Call) → About (verdict c s) (actor c s)
+  about : (c : PanelCall) → About (verdict c s) (actor c s)
   about (Propose p v cut) = named p cut _ (proposes (status s p) p v cut)
   about (Recover p cut) = named p cut _ (recovers (status s p) p cut)
   about (Look p list cut) = named p cut _ (looks (status s p) p list.now cut)
@@ -118,5 +114,5 @@ module _ (s : State) where
   about (Lose i) = after (is_some (element s.box i)) _ (drop_message i) 0 (λ _. record { by = tt })
   about (Crash p) = after (member s p) _ _ p (λ m. crashes (status s p) p (within 1 s.size p m).0)
 
-  pub apart : (c : Call) → Apart (actor c s) s (carried (verdict c s) s).after
+  pub apart : (c : PanelCall) → Apart (actor c s) s (carried (verdict c s) s).after
   apart c = carried_apart (verdict c s) s (actor c s) (about c).by

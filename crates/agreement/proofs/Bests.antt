@@ -1,5 +1,5 @@
 -- The best kept estimate is one of them, and none has a greater stamp; a sender has its estimate.
-use Rattle.std.proofs.Common.{◌≡◌, ℕ, zero, suc, ◌≤◌, Bool, true, false, ◌&&◌, T, eqb, ltb, leb, List, [], ◌∷◌, map, get_or, is_some, Some, None, Option, refl, ⊎_elim, arith}
+use Rattle.std.proofs.Common.{◌≡◌, ℕ, zero, suc, ◌≤◌, true, false, ◌&&◌, eqb, ltb, leb, List, [], ◌∷◌, map, get_or, is_some, Some, None, Option, refl, ⊎_elim, arith}
 use Rattle.std.specs.Option.{option_to_list}
 use Rattle.std.specs.List.{flat_map, AllByRecursion}
 use Rattle.std.proofs.lemmas.Bool.{and_parts, eqb-true, ltb-true, or_cases}
@@ -8,15 +8,6 @@ use Rattle.tray.specs.declared.kinds.Estimate.{Estimate}
 use Rattle.tray.specs.Kinds.{prefers_estimate}
 use Rattle.tray.proofs.Bests.{best_in, best_tops}
 use Rattle.process.specs.Rounds.{best_kept}
-
-pub T_true : {b : Bool} → b ≡ true → T b
-T_true e = rw e tt
-
-pub false_true : {A : Type 0} → false ≡ true → A
-false_true e = absurd (T_true e)
-
-pub some≢none : {A : Type 0} {x : A} {o : Option A} → o ≡ Some x → o ≡ None → ⊥
-some≢none p q = let z : ◌≡◌ {A = ℕ} 0 1 = cc in omega arith
 
 -- what holds of each kept one, by its place and in the list of them
 index_all : (P : Estimate → Type 0) (ks : List (Option Estimate)) → ((i : ℕ) (e : Estimate) → get_or ks i None ≡ Some e → P e) → AllByRecursion P (flat_map option_to_list ks)
@@ -55,10 +46,10 @@ pub kept_above : (ks : List (Option Estimate)) (b : Estimate) → best_kept ks �
 kept_above ks b e = all_below ks b (best_tops prefers_estimate total transitive (flat_map option_to_list ks) b e)
 
 is_there : (o : Option Estimate) → is_some o ≡ true → (e : Estimate) × (o ≡ Some e)
-is_there None e = false_true e
+is_there None e = cc
 is_there (Some x) e = (x, refl)
 
 pub sender_at : (ks : List (Option Estimate)) (k : ℕ) → get_or (map is_some ks) k false ≡ true → (e : Estimate) × (get_or ks k None ≡ Some e)
-sender_at [] k e = false_true e
+sender_at [] k e = cc
 sender_at (x ∷ xs) zero e = is_there x e
 sender_at (x ∷ xs) (suc k) e = sender_at xs k e

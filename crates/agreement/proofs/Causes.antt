@@ -12,7 +12,7 @@ use Rattle.process.specs.Messages.{is_reading, well_formed}
 use Rattle.process.specs.Phases.{is_done}
 use Rattle.process.specs.Ranges.{every}
 use Rattle.process.specs.Rounds.{Step, coordinator}
-use Rattle.agreement.specs.declared.call.Call.{Call}
+use Rattle.agreement.specs.Lists.{PanelCall}
 use Rattle.agreement.specs.declared.call.Call.TheVariants.{Propose, Recover, Look, Deliver, Again, Lose, Crash}
 use Rattle.agreement.specs.declared.call.Refusal.{Refusal}
 use Rattle.agreement.specs.declared.call.Refusal.TheVariants.{CutTooLarge, NoSuchProcess, NoMessage, AlreadyUp, ProcessDown, ProcessDone, AlreadyProposed, ProcessIdle, NotAReading, WrongList, NoRoundFits, EarlyAck}
@@ -120,7 +120,7 @@ module _ (s : State) where
       → Told ((CutTooLarge, not (cut_fits cut)) ∷ (NoSuchProcess, not (member s p)) ∷ cs) (need (cut_fits cut) CutTooLarge (need (member s p) NoSuchProcess v))
   named p cut v cs g h l = where_it (cut_fits cut) CutTooLarge _ _ g (where_it (member s p) NoSuchProcess v cs h l)
 
-  told_lowest : (c : Call) → Told (causes c s) (verdict c s)
+  told_lowest : (c : PanelCall) → Told (causes c s) (verdict c s)
   told_lowest (Propose p v cut) = named p cut _ _ refl refl (proposed (status s p) p v cut)
   told_lowest (Recover p cut) = named p cut _ _ refl refl (recovered (status s p) p cut)
   told_lowest (Look p list cut) = named p cut _ _ refl refl (looked (status s p) p list.now cut)
@@ -137,5 +137,5 @@ unchanged (put_down p) s h = absurd (true≢false h)
 unchanged (drop_message i) s h = absurd (true≢false h)
 
 -- a call that is the same as another, and comes to the verdict on that
-pub answered : (c d : Call) (s : State) (o : Outcome) → c ≡ d → o ≡ done (verdict d) s → Answered c s o
-answered c d s o is e = subst (λ (x : Call). Answered x s o) (sym is) (subst (Answered d s) (sym e) (record { value = refl; lowest = (told_lowest s d).tells; left = unchanged (verdict d s) s; apart = apart s d }))
+pub answered : (c d : PanelCall) (s : State) (o : Outcome) → c ≡ d → o ≡ done (verdict d) s → Answered c s o
+answered c d s o is e = subst (λ (x : PanelCall). Answered x s o) (sym is) (subst (Answered d s) (sym e) (record { value = refl; lowest = (told_lowest s d).tells; left = unchanged (verdict d s) s; apart = apart s d }))

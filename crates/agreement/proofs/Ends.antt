@@ -1,6 +1,7 @@
 -- The promise.
-use Rattle.std.proofs.Common.{◌≡◌, ℕ, suc, ◌<◌, ◌≤◌, Bool, true, List, [], ◌∷◌, sym, refl, ◌∙◌, inl, inr, ⊎_elim, arith}
+use Rattle.std.proofs.Common.{◌≡◌, ℕ, suc, ◌<◌, ◌≤◌, Bool, true, List, [], ◌∷◌, sym, refl, inl, inr, ⊎_elim, arith}
 use Rattle.std.specs.List.{AllByRecursion}
+use Rattle.std.proofs.ByRecursion.{All-weaker}
 use Rattle.std.proofs.lemmas.Bool.{cases_lt}
 use Rattle.quorum.specs.Laws.{has, Shares}
 use Rattle.store.specs.Cells.{Cells}
@@ -9,10 +10,9 @@ use Rattle.agreement.specs.Worlds.{World}
 use Rattle.agreement.specs.Calls.{run}
 use Rattle.agreement.specs.Promise.{Ever, Bears, Settled, Agreed, Agreement, fresh}
 use Rattle.agreement.proofs.Facts.{Rule, Votes, Chosen, Sound}
-use Rattle.agreement.proofs.Grow.{all_map}
 use Rattle.agreement.proofs.Plans.{at_replicate}
 use Rattle.agreement.proofs.Verdicts.{Holding}
-use Rattle.agreement.proofs.Runs.{Fits, ran, down_up}
+use Rattle.agreement.proofs.Runs.{Fits, ran}
 
 -- what some element has, with what each has
 of_some : {A : Type 0} {P Q : A → Type 0} {B : Type 0} → ((x : A) → P x → Q x → B) → (xs : List A) → AllByRecursion P xs → Ever Q xs → B
@@ -47,7 +47,7 @@ module _ (R : Rule) (shares : Shares R.size R.enough) (V : Votes) (C : Cells) (S
   agreement : (seen : List World) → AllByRecursion (Fits R V) seen → Agreement R.size R.enough seen
   agreement seen fit = record {
     one_decision = λ v w a b. same_choice v w (settled v a) (settled w b);
-    proposed = all_map (λ t f. f.traced) seen fit;
+    proposed = All-weaker _ _ (λ t f. f.traced) seen fit;
     held = λ r Q full voted p q v w s t hs ht a b.
         let votes : (k : ℕ) → k < R.size → has Q k ≡ true → (x : ℕ) × V (suc k) x r = λ k j l. ((voted k j l).0, borne (suc k) (voted k j l).0 r (voted k j l).1) in
         let m = meets r Q full votes p v s hs (borne p v s a) in
@@ -81,7 +81,7 @@ start R places = record {
     rounds = λ q r h. absurd h;
   };
   tray = tt;
-  fine = λ i μ e. down_up (sym (at_replicate 9 i Down) ∙ e);
+  fine = λ i μ e. cc (at_replicate 9 i Down);
 }
 
 -- the promise, of every run of a fresh panel

@@ -1,6 +1,6 @@
 -- What holds at every moment of a run, told with the votes cast so far: `V q v s` says that (v, s) has stood in q's pair cell.
 --
-use Rattle.std.proofs.Common.{◌≡◌, ℕ, zero, suc, ◌<◌, ◌≤◌, Bool, true, T, ◌⊎◌, List, [], ◌∷◌, get_or, Some, None, Option}
+use Rattle.std.proofs.Common.{◌≡◌, ℕ, suc, ◌<◌, ◌≤◌, Bool, true, T, ◌⊎◌, List, [], ◌∷◌, get_or, Some, None, Option}
 use Rattle.quorum.specs.Laws.{has}
 use Rattle.store.specs.declared.content.Content.{Content}
 use Rattle.store.specs.Cells.{Cells, put}
@@ -14,6 +14,8 @@ use Rattle.process.specs.declared.memory.Phase.{Phase}
 use Rattle.process.specs.Phases.{is_active}
 use Rattle.process.specs.Rounds.{Step, coordinator}
 use Rattle.agreement.specs.Promise.{Holds, Marked}
+use Rattle.store.specs.declared.content.CellName.{CellName}
+use Rattle.store.specs.CellNames.{cell_number}
 
 -- a rule by what it means
 pub record Rule : Type 0 where
@@ -112,13 +114,11 @@ module _ (R : Rule) where
     pub backed : V (coord r) v r ⊎ ((p ≡ coord r) × ((q w : ℕ) → V q w r → ⊥))
     pub safe : (u : ℕ) → u < r → Safe V C v u
 
-  abbrev pub MayWrite : Votes → Cells → ℕ → Content → ℕ → Type 0
-  MayWrite V C p x zero = ⊥
-  MayWrite V C p x (suc zero) = C p 1 ≡ None
-  MayWrite V C p x (suc (suc zero)) = MayEnter C p x.number
-  MayWrite V C p x (suc (suc (suc zero))) = MayVote V C p x.number x.stamp
-  MayWrite V C p x (suc (suc (suc (suc zero)))) = Chosen V x.number
-  MayWrite V C p x (suc (suc (suc (suc (suc c))))) = ⊥
+  abbrev pub MayWrite : Votes → Cells → ℕ → Content → CellName → Type 0
+  MayWrite V C p x CellName.Proposal = C p 1 ≡ None
+  MayWrite V C p x CellName.Round = MayEnter C p x.number
+  MayWrite V C p x CellName.Pair = MayVote V C p x.number x.stamp
+  MayWrite V C p x CellName.Decision = Chosen V x.number
 
   abbrev pub May : Votes → Cells → ℕ → Action → Type 0
   May V C p (Write c x) = MayWrite V C p x c
@@ -160,19 +160,18 @@ module _ (R : Rule) where
     pub last : Lasting V C μ.last
     pub busy : T (is_active μ.phase) → Active V C p μ.phase μ.round μ.reading μ.stamp μ.kept μ.acknowledgers
 
-  abbrev pub votes_by : ℕ → Votes → ℕ → Content → Votes
-  votes_by zero V p x = V
-  votes_by (suc zero) V p x = V
-  votes_by (suc (suc zero)) V p x = V
-  votes_by (suc (suc (suc zero))) V p x = plus V p x.number x.stamp
-  votes_by (suc (suc (suc (suc c)))) V p x = V
+  abbrev pub votes_by : CellName → Votes → ℕ → Content → Votes
+  votes_by CellName.Proposal V p x = V
+  votes_by CellName.Round V p x = V
+  votes_by CellName.Pair V p x = plus V p x.number x.stamp
+  votes_by CellName.Decision V p x = V
 
   abbrev pub votes_after : Votes → ℕ → Action → Votes
   votes_after V p (Write c x) = votes_by c V p x
   votes_after V p (Send m) = V
 
   abbrev pub cells_after : Cells → ℕ → Action → Cells
-  cells_after C p (Write c x) = put C p c x
+  cells_after C p (Write c x) = put C p (cell_number c) x
   cells_after C p (Send m) = C
 
   -- the actions may be done one after the other, and P holds after the last

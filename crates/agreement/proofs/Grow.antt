@@ -1,6 +1,5 @@
 -- What growing keeps.
-use Rattle.std.proofs.Common.{◌≡◌, ℕ, suc, ◌<◌, Bool, cond, eqb, List, [], ◌∷◌, Option, inl, inr, ⊎_elim, le_trans, le_refl, arith}
-use Rattle.std.specs.List.{AllByRecursion}
+use Rattle.std.proofs.Common.{◌≡◌, ℕ, suc, Bool, cond, eqb, List, Option, inl, inr, ⊎_elim, le_trans, le_refl, arith}
 use Rattle.std.proofs.lemmas.Bool.{eqb-true, eqb-false, cond_both}
 use Rattle.store.specs.Cells.{Cells}
 use Rattle.process.specs.declared.message.Kind.{Kind}
@@ -8,10 +7,6 @@ use Rattle.process.specs.declared.message.Message.{Message}
 use Rattle.tray.specs.declared.kinds.Estimate.{Estimate}
 use Rattle.process.specs.declared.memory.Memory.{Memory}
 use Rattle.agreement.proofs.Facts.{Rule, Votes, rnd, Known, Grows, Offer, coord, Safe, Chosen, GoodAs, Good, Offers, Voters, Lasting, Fine}
-
-pub all_map : {A : Type 0} {P Q : A → Type 0} → ((x : A) → P x → Q x) → (xs : List A) → AllByRecursion P xs → AllByRecursion Q xs
-all_map f [] h = tt
-all_map f (x ∷ xs) h = (f x h.0, all_map f xs h.1)
 
 pub grows_refl : (V : Votes) (C : Cells) → Grows V C V C
 grows_refl V C = record { votes = λ q v s h. h; rounds = λ q. le_refl (rnd C q); newer = λ q v s h. inl h; proposals = λ q v h. h }
@@ -42,7 +37,7 @@ module _ (R : Rule) where
     quorum = s.quorum;
     full = s.full;
     past = λ k i. le_trans (s.past k i) (g.rounds (suc k));
-    agree = λ k w i a. ⊎_elim (λ b. s.agree k w i b) (λ b. absurd (let l : r < rnd C (suc k) = s.past k i in let z : ⊥ = omega arith in z)) (g.newer (suc k) w r a);
+    agree = λ k w i a. ⊎_elim (λ b. s.agree k w i b) (λ b. absurd (omega (arith, s.past k i))) (g.newer (suc k) w r a);
   }
 
   pub chosen_grows : {V W : Votes} → ((q v s : ℕ) → V q v s → W q v s) → (v : ℕ) → Chosen R V v → Chosen R W v

@@ -5,7 +5,7 @@ pub mod Causes
 pub mod Ends
 mod Facts
 mod Grow
-mod Plans
+pub mod Plans
 pub mod Ranges
 mod Runs
 mod Settles

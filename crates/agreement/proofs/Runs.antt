@@ -11,23 +11,20 @@ use Rattle.process.specs.declared.memory.Action.TheVariants.{Write, Send}
 use Rattle.process.specs.declared.memory.Memory.{Memory}
 use Rattle.process.specs.declared.memory.Status.{Status}
 use Rattle.process.specs.declared.memory.Status.TheVariants.{Up, Down}
-use Rattle.agreement.specs.declared.call.Call.{Call}
-use Rattle.std.proofs.ByRecursion.{All-append, All-drop, All-take}
+use Rattle.agreement.specs.Lists.{PanelCall}
+use Rattle.std.proofs.ByRecursion.{All-append, All-drop, All-take, All-weaker}
 use Rattle.tray.specs.Items.{without}
 use Rattle.agreement.specs.Worlds.{World, act, moments, performed}
 use Rattle.agreement.specs.Calls.{State, Verdict, world, carried, shown, verdict, done, run}
 use Rattle.agreement.specs.Promise.{Ever, Bears, Proposed, Decided, Settled}
 use Rattle.agreement.proofs.Facts.{Rule, Votes, Grows, Chosen, GoodAs, Good, Sound, May, Fine, votes_after, cells_after, Run}
-use Rattle.agreement.proofs.Grow.{all_map, grows_refl, grows_trans, chosen_grows, good_grows, fine_grows}
+use Rattle.agreement.proofs.Grow.{grows_refl, grows_trans, chosen_grows, good_grows, fine_grows}
 use Rattle.agreement.proofs.Acts.{grows_act, sound_act, vote_apart, round_apart}
 use Rattle.agreement.proofs.Plans.{at_put, run_take}
 use Rattle.agreement.proofs.Verdicts.{Okay, Holding, rule_of, verdict_ok}
 
 abbrev pub Traced : World → Type 0
 Traced t = ((v : ℕ) → Decided v t → Proposed v t) × ((p v r : ℕ) → Bears p v r t → Proposed v t)
-
-pub down_up : {A : Type 0} {μ : Memory} → Down ≡ Up μ → A
-down_up e = let z : ◌≡◌ {A = ℕ} 0 1 = cc in absurd (let k : ⊥ = omega arith in k)
 
 module _ (R : Rule) where
   -- a moment fits the votes: each pair is a vote, each decision is chosen, and their readings are proposed
@@ -103,7 +100,7 @@ module _ (R : Rule) where
       let S' = sound_act R V t.cells p a S h.0 in
       let g = grows_act R V t.cells p a h.0 in
       joined places p P a acts V t refl S tray h.0
-      (did places p P acts (votes_after R V p a) (act places p t a) S' (all_map (good_grows R g) t.box tray) (h.1 S' g))
+      (did places p P acts (votes_after R V p a) (act places p t a) S' (All-weaker _ _ (good_grows R g) t.box tray) (h.1 S' g))
   did places p P (Send m ∷ acts) V t S tray h =
       joined places p P (Send m) acts V t refl S tray h.0
       (did places p P acts V (act places p t (Send m)) S
@@ -124,7 +121,7 @@ module _ (R : Rule) where
       → (i : ℕ) (μ : Memory) → get_or (set records (p - 1) o) i Down ≡ Up μ → Fine R W D (suc i) μ
   memories {V} {W} {C} {D} g p records o p1 apart fine mine i μ =
       at_put (λ j k. k ≡ Up μ → Fine R W D (suc j) μ) records (p - 1) i o Down
-      (λ e. down_up e)
+      (λ e. cc)
       (λ j e. let here : p ≡ suc i = omega arith in rw here at (mine μ e))
       (λ j e. let ne : (suc i ≡ p) → ⊥ = λ k. j (omega arith) in
       fine_grows R g (suc i) μ (apart (suc i) ne).0 (apart (suc i) ne).1 (fine i μ e))
@@ -133,7 +130,7 @@ module _ (R : Rule) where
   fewer : {V : Votes} {C : Cells} (p : ℕ) (records : List Status) → ((i : ℕ) (μ : Memory) → get_or records i Down ≡ Up μ → Fine R V C (suc i) μ)
       → (i : ℕ) (μ : Memory) → get_or (set records (p - 1) Down) i Down ≡ Up μ → Fine R V C (suc i) μ
   fewer {V} {C} p records fine i μ =
-      at_put (λ j k. k ≡ Up μ → Fine R V C (suc j) μ) records (p - 1) i Down Down (λ e. down_up e) (λ j e. down_up e) (λ j e. fine i μ e)
+      at_put (λ j k. k ≡ Up μ → Fine R V C (suc j) μ) records (p - 1) i Down Down (λ e. cc) (λ j e. cc) (λ j e. fine i μ e)
 
   all_without : (P : Message → Type 0) (ms : List Message) (i : ℕ) → AllByRecursion P ms → AllByRecursion P (without ms i)
   all_without P ms zero h = h
@@ -167,7 +164,7 @@ module _ (R : Rule) where
         holding = record {
           sound = d.sound;
           tray = d.tray;
-          fine = memories d.grows p s.statuses Down ok.0 d.apart H.fine (λ μ e. down_up e);
+          fine = memories d.grows p s.statuses Down ok.0 d.apart H.fine (λ μ e. cc);
         };
       }
   kept V s H (Verdict.put_down p) ok =
@@ -196,10 +193,10 @@ same_rule (Verdict.perform p cut t) s = refl
 same_rule (Verdict.put_down p) s = refl
 same_rule (Verdict.drop_message i) s = refl
 
-verdict_for : (R : Rule) (V : Votes) (s : State) → rule_of s ≡ R → Holding R V s → (c : Call) → Okay R V s.cells (verdict c s)
-verdict_for R V s e = subst (λ (Q : Rule). Holding Q V s → (c : Call) → Okay Q V s.cells (verdict c s)) e (λ H. verdict_ok V s H)
+verdict_for : (R : Rule) (V : Votes) (s : State) → rule_of s ≡ R → Holding R V s → (c : PanelCall) → Okay R V s.cells (verdict c s)
+verdict_for R V s e = subst (λ (Q : Rule). Holding Q V s → (c : PanelCall) → Okay Q V s.cells (verdict c s)) e (λ H. verdict_ok V s H)
 
-pub ran : (R : Rule) (cs : List Call) (V : Votes) (s : State) → rule_of s ≡ R → Holding R V s → Ran R V (run cs s)
+pub ran : (R : Rule) (cs : List PanelCall) (V : Votes) (s : State) → rule_of s ≡ R → Holding R V s → Ran R V (run cs s)
 unfolding run
 ran R [] V s e H = record { cast = V; cells = s.cells; votes = λ q v s h. h; fit = (fits_now R V (world s) H.sound H.tray, tt); sound = H.sound }
 ran R (c ∷ cs) V s e H =
@@ -209,6 +206,6 @@ ran R (c ∷ cs) V s e H =
       cast = r.cast;
       cells = r.cells;
       votes = λ q v s h. r.votes q v s (k.votes q v s h);
-      fit = All-append (Fits R r.cast) (shown (verdict c s) s) _ (all_map (fits_grows R r.votes) (shown (verdict c s) s) k.fit) r.fit;
+      fit = All-append (Fits R r.cast) (shown (verdict c s) s) _ (All-weaker _ _ (fits_grows R r.votes) (shown (verdict c s) s) k.fit) r.fit;
       sound = r.sound;
     }

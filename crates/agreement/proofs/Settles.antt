@@ -12,38 +12,38 @@ use Rattle.process.specs.Phases.{is_confirming, is_gathering}
 use Rattle.process.proofs.Stages.{gathering_active, confirming_active}
 use Rattle.agreement.proofs.Facts.{Rule, Votes, plus, number_in, Known, Offer, coord, Safe, Chosen, Sound, MayEnter, MayVote, Stand, Role, Offers, Voters, Lasting, Fine, Run, Goes}
 use Rattle.agreement.proofs.Grow.{at_cell, known_grows, offers_grow, lasting_grows}
-use Rattle.agreement.proofs.Bests.{T_true, some≢none, false_true}
 use Rattle.agreement.proofs.Plans.{at_set, at_replicate, suc_less, run_weaker, run_then, noted_good, to_all_runs, to_all_ok}
 use Rattle.agreement.proofs.Bests.{kept_in, Below, kept_above, sender_at}
+use Rattle.store.specs.declared.content.CellName.TheVariants as CellName
 
 module _ (R : Rule) (p : ℕ) where
   gather_role : (f : Phase) (r t : ℕ) → is_gathering f ≡ true → Role R p f r t → (p ≡ coord R r) × (t < r)
-  gather_role Phase.Idle r t i h = false_true i
-  gather_role Phase.Waiting r t i h = false_true i
-  gather_role Phase.Acked r t i h = false_true i
+  gather_role Phase.Idle r t i h = cc
+  gather_role Phase.Waiting r t i h = cc
+  gather_role Phase.Acked r t i h = cc
   gather_role Phase.Gathering r t i h = h
-  gather_role Phase.Confirming r t i h = false_true i
-  gather_role Phase.Done r t i h = false_true i
+  gather_role Phase.Confirming r t i h = cc
+  gather_role Phase.Done r t i h = cc
 
   confirm_role : (f : Phase) (r t : ℕ) → is_confirming f ≡ true → Role R p f r t → (p ≡ coord R r) × (t ≡ r)
-  confirm_role Phase.Idle r t i h = false_true i
-  confirm_role Phase.Waiting r t i h = false_true i
-  confirm_role Phase.Acked r t i h = false_true i
-  confirm_role Phase.Gathering r t i h = false_true i
+  confirm_role Phase.Idle r t i h = cc
+  confirm_role Phase.Waiting r t i h = cc
+  confirm_role Phase.Acked r t i h = cc
+  confirm_role Phase.Gathering r t i h = cc
   confirm_role Phase.Confirming r t i h = h
-  confirm_role Phase.Done r t i h = false_true i
+  confirm_role Phase.Done r t i h = cc
 
   -- p alone has voted, or offered, at the place of p; and nobody has
   only_voter : (r w : ℕ) (W : Votes) → 1 ≤ p → W p w r → Voters R W r (only p)
   only_voter r w W l a i =
       at_set (λ j b. b ≡ true → (w : ℕ) × W (suc j) w r) (replicate 9 false) (p - 1) i true false
-      (λ _. (w, rw (suc_less p l) a)) (λ b. false_true (rw (at_replicate 9 i false) at b))
+      (λ _. (w, rw (suc_less p l) a)) (λ b. cc (at_replicate 9 i false))
 
   no_voter : (r : ℕ) (W : Votes) → Voters R W r (replicate 9 false)
-  no_voter r W i b = false_true (rw (at_replicate 9 i false) at b)
+  no_voter r W i b = cc (at_replicate 9 i false)
 
   no_offer : (r : ℕ) (W : Votes) (D : Cells) → Offers R W D r (replicate 9 None)
-  no_offer r W D i e k = absurd (some≢none k (at_replicate 9 i None))
+  no_offer r W D i e k = cc (at_replicate {A = Option Estimate} 9 i None)
 
   pub put_offer : (r : ℕ) (W : Votes) (D : Cells) (kept : List (Option Estimate)) (q : ℕ) (h : Estimate) → 1 ≤ q → Offers R W D r kept → Offer W D q r h.reading h.stamp
       → Offers R W D r (set kept (q - 1) (Some h))
@@ -54,12 +54,12 @@ module _ (R : Rule) (p : ℕ) where
   module _ (V : Votes) (C : Cells) where
     -- at a stamp that is the round's, the vote is cast
     cast_at : (r e t : ℕ) → Stand R V C p r e t → t ≡ r → V p e r
-    cast_at r e t s q = ⊎_elim (λ z. absurd (let l = s.least in let k : ⊥ = omega arith in k)) (λ h. rw q at h) s.cast
+    cast_at r e t s q = ⊎_elim (λ z. absurd (omega (arith, s.least))) (λ h. rw q at h) s.cast
 
     -- enough acknowledgers: the reading is chosen
     concluded : (μ : Memory) → is_confirming μ.phase ≡ true → R.enough μ.acknowledgers ≡ true → Fine R V C p μ → Chosen R V μ.reading
     concluded μ i q f =
-        let a = f.busy (T_true (confirming_active μ.phase i)) in
+        let a = f.busy (rw (confirming_active μ.phase i) tt) in
         let ro = confirm_role μ.phase μ.round μ.stamp i a.role in
         record {
           stamp = μ.round;
@@ -83,7 +83,7 @@ module _ (R : Rule) (p : ℕ) where
         = λ k i. let x = sender_at kept k i in
         (x.0.reading, x.0.stamp, (os k x.0 x.1, subst (λ (o : Option Estimate). Below o b) x.1 (kept_above kept b is k))) in
         ⊎_elim
-        (λ (l : u < b.stamp). ⊎_elim (λ z. absurd (let k : ⊥ = omega arith in k)) (λ a. S.safe own.0 b.reading b.stamp u a l) ob.cast)
+        (λ (l : u < b.stamp). ⊎_elim (λ z. absurd (omega arith)) (λ a. S.safe own.0 b.reading b.stamp u a l) ob.cast)
         (λ (l : b.stamp ≤ u). record {
           quorum = senders kept;
           full = q;
@@ -91,8 +91,8 @@ module _ (R : Rule) (p : ℕ) where
           agree = λ k w i a. ⊎_elim
               (λ c. let d = (from k i).2.1 in
               let same : u ≡ b.stamp = omega arith in
-              ⊎_elim (λ z. absurd (let m = S.least (suc k) w u a in let k : ⊥ = omega arith in k)) (λ v. S.one (suc k) own.0 w b.reading b.stamp (rw same at a) v) ob.cast)
-              (λ c. absurd (let k : ⊥ = omega arith in k))
+              ⊎_elim (λ z. absurd (omega (arith, S.least (suc k) w u a))) (λ v. S.one (suc k) own.0 w b.reading b.stamp (rw same at a) v) ob.cast)
+              (λ c. absurd (omega arith))
               ((from k i).2.0.gap w u a);
         })
         (cases_lt u b.stamp)
@@ -103,7 +103,7 @@ module _ (R : Rule) (p : ℕ) where
     unfolding Owned
     chosen_may μ b is i q S f =
         let r = μ.round in
-        let a = f.busy (T_true (gathering_active μ.phase i)) in
+        let a = f.busy (rw (gathering_active μ.phase i) tt) in
         let ro = gather_role μ.phase r μ.stamp i a.role in
         let owned : Owned r b = kept_in (Owned r) μ.kept (λ k e n. (suc k, a.offers k e n)) b is in
         record {
@@ -113,7 +113,7 @@ module _ (R : Rule) (p : ℕ) where
           backed = inr (
             ro.0,
             λ k w c. let own : V p w r = rw (← ro.0) at (S.own k w r c) in
-                let l = a.stand.top w r own in let l' = ro.1 in let z : ⊥ = omega arith in z,
+                omega (arith, a.stand.top w r own, ro.1),
           );
           safe = choice_safe r μ.kept b is S q a.offers owned;
         }
@@ -123,7 +123,7 @@ module _ (R : Rule) (p : ℕ) where
     conclude_ok : (s : Step) → is_confirming s.memory.phase ≡ true → R.enough s.memory.acknowledgers ≡ true → Goes R V C p s → Goes R V C p (conclude R.size p s)
     conclude_ok s i q h =
         let e = s.memory.reading in
-        run_then R p _ (to_all R.size (decide p e) s).acts (Write 4 (record { number = e; stamp = 0 }) ∷ []) S
+        run_then R p _ (to_all R.size (decide p e) s).acts (Write CellName.Decision (record { number = e; stamp = 0 }) ∷ []) S
         (to_all_runs R p (λ W D. Unit {0}) R.size (decide p e) s S (run_weaker R p (λ W D S' f. (tt, f.last, λ q'. concluded W D s.memory i q f)) s.acts S h))
         (λ W D S' a. (
           a.2 0,
@@ -143,9 +143,9 @@ module _ (R : Rule) (p : ℕ) where
         let μ = s.memory in
         let e = b.reading in
         let r = s.memory.round in
-        to_all_ok R p (λ W D ν. Fine R W D p ν) R.size (new_estimate p r e) (write 3 e r (remember (choose p e) s)) S
-        (run_then R p _ s.acts (Write 3 (record { number = e; stamp = r }) ∷ []) S h (λ W D S' f.
-        let a = f.busy (T_true (gathering_active μ.phase i)) in
+        to_all_ok R p (λ W D ν. Fine R W D p ν) R.size (new_estimate p r e) (write CellName.Pair e r (remember (choose p e) s)) S
+        (run_then R p _ s.acts (Write CellName.Pair (record { number = e; stamp = r }) ∷ []) S h (λ W D S' f.
+        let a = f.busy (rw (gathering_active μ.phase i) tt) in
         let ro = gather_role μ.phase r μ.stamp i a.role in
         let may = chosen_may W D μ b is i q S' f in (
           may,
@@ -201,13 +201,13 @@ module _ (R : Rule) (p : ℕ) where
         known = st.known;
       }
 
-      entered_ok : Run R Begun p (write 2 r 0 (remember (begin r) s)).acts V C → Goes R V C p (entered R.size p R.enough r (write 2 r 0 (remember (begin r) s)))
+      entered_ok : Run R Begun p (write CellName.Round r 0 (remember (begin r) s)).acts V C → Goes R V C p (entered R.size p R.enough r (write CellName.Round r 0 (remember (begin r) s)))
       entered_ok h =
           let n = R.size in
           let c = coord R r in
           let e = s.memory.reading in
           let t = s.memory.stamp in
-          let u = write 2 r 0 (remember (begin r) s) in
+          let u = write CellName.Round r 0 (remember (begin r) s) in
           cond_both (eqb p c) (settle n p R.enough (lead n p r u)) (follow p c r u) (Goes R V C p)
           (λ i. let pc = eqb-true p c i in
           settle_ok (lead n p r u) (cond_both (eqb t r) (to_all n (new_estimate p r e) (remember (confirm p) u)) (remember (gather p) (to_all n (new_round p r) u)) (Goes R V C p)
@@ -244,7 +244,7 @@ module _ (R : Rule) (p : ℕ) where
       pub enter_ok : Run R Enters p s.acts V C → Goes R V C p (enter R.size p R.enough r s)
       unfolding enter
       enter_ok h =
-          entered_ok (run_then R p Begun s.acts (Write 2 (record { number = r; stamp = 0 }) ∷ []) S h (λ W D S' a. (
+          entered_ok (run_then R p Begun s.acts (Write CellName.Round (record { number = r; stamp = 0 }) ∷ []) S h (λ W D S' a. (
             a.0,
             λ S'' g. (
               record {

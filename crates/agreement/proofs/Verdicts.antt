@@ -13,7 +13,7 @@ use Rattle.agreement.specs.declared.call.Refusal.{Refusal}
 use Rattle.agreement.specs.declared.call.Refusal.TheVariants.{CutTooLarge, NoSuchProcess, NoMessage, ProcessDone, AlreadyProposed, ProcessIdle, NotAReading, WrongList, EarlyAck}
 use Rattle.process.specs.declared.memory.Status.{Status}
 use Rattle.process.specs.declared.memory.Status.TheVariants.{Up, Down}
-use Rattle.agreement.specs.declared.call.Call.{Call}
+use Rattle.agreement.specs.Lists.{PanelCall}
 use Rattle.agreement.specs.declared.call.Call.TheVariants.{Propose, Recover, Look, Deliver, Again, Lose, Crash}
 use Rattle.tray.specs.Items.{element}
 use Rattle.process.specs.Rounds.{Step, ack, addressed, blank, coordinator, decide, enter, hold, number_or, propose, recover, remember, resumed, settle, still, write}
@@ -30,21 +30,21 @@ use Rattle.process.proofs.Stages.{waiting_active}
 use Rattle.agreement.proofs.Ranges.{ends_of, within}
 use Rattle.agreement.proofs.Facts.{Rule, Votes, plus, rnd, Offer, coord, Chosen, GoodAs, Good, Sound, MayEnter, Offers, Lasting, Fine, Goes}
 use Rattle.agreement.proofs.Grow.{at_cell, known_grows, offers_grow, lasting_grows, voters_grow}
-use Rattle.agreement.proofs.Bests.{T_true, some≢none, false_true}
 use Rattle.agreement.proofs.Plans.{at_set, at_replicate, suc_less, noted_good, repeats_ok}
 use Rattle.agreement.proofs.Settles.{put_offer, settle_ok, enter_ok}
+use Rattle.store.specs.declared.content.CellName.TheVariants as CellName
 
 none_of : {A : Type 0} (o : Option A) → not (is_some o) ≡ true → o ≡ None
 none_of None e = refl
-none_of (Some x) e = false_true e
+none_of (Some x) e = cc
 
 of_nth : (P : Message → Type 0) (i : ℕ) (ms : List Message) (m : Message) → AllByRecursion P ms → slice_get ms i ≡ Some m → P m
-of_nth P i [] m h e = absurd (some≢none e refl)
+of_nth P i [] m h e = cc
 of_nth P zero (x ∷ xs) m h e = let z : x ≡ m = cc in subst P z h.0
 of_nth P (suc i) (x ∷ xs) m h e = of_nth P i xs m h.1 e
 
 of_place : (P : Message → Type 0) (i : ℕ) (ms : List Message) (m : Message) → AllByRecursion P ms → element ms i ≡ Some m → P m
-of_place P zero ms m h e = absurd (some≢none e refl)
+of_place P zero ms m h e = cc
 of_place P (suc i) ms m h e = of_nth P i ms m h e
 
 module _ (R : Rule) where
@@ -60,46 +60,46 @@ module _ (R : Rule) where
     need_ok b e v h = cond_both b v (Verdict.refuse e) (Okay V C) h (λ _. tt)
 
     no_last : Lasting R V C blank.last
-    no_last q m e = absurd (some≢none e (at_replicate 9 q None))
+    no_last q m e = cc (at_replicate {A = Option Message} 9 q None)
 
     not_silent : (p : ℕ) → 1 ≤ rnd C p → C p 1 ≡ None → ⊥
-    not_silent p h e = let z = S.silent p e in omega arith
+    not_silent p h e = omega (arith, S.silent p e)
 
     busy_phase : (f : Phase) → not (is_done f) ≡ true → not (is_idle f) ≡ true → T (is_active f)
-    busy_phase Phase.Idle i j = T_true j
+    busy_phase Phase.Idle i j = cc
     busy_phase Phase.Waiting i j = tt
     busy_phase Phase.Acked i j = tt
     busy_phase Phase.Gathering i j = tt
     busy_phase Phase.Confirming i j = tt
-    busy_phase Phase.Done i j = T_true i
+    busy_phase Phase.Done i j = cc
 
     -- what a message of its kind says
     estimate_good : (k : Kind) (m : Message) → is_estimate k ≡ true → GoodAs R V C k m → Offer V C m.sender m.round m.reading m.stamp
-    estimate_good Kind.NewRound m e h = false_true e
+    estimate_good Kind.NewRound m e h = cc
     estimate_good Kind.Estimate m e h = h
-    estimate_good Kind.NewEstimate m e h = false_true e
-    estimate_good Kind.Ack m e h = false_true e
-    estimate_good Kind.Decide m e h = false_true e
+    estimate_good Kind.NewEstimate m e h = cc
+    estimate_good Kind.Ack m e h = cc
+    estimate_good Kind.Decide m e h = cc
 
     new_estimate_good : (k : Kind) (m : Message) → is_new_estimate k ≡ true → GoodAs R V C k m → V (coord R m.round) m.reading m.round
-    new_estimate_good Kind.NewRound m e h = false_true e
-    new_estimate_good Kind.Estimate m e h = false_true e
+    new_estimate_good Kind.NewRound m e h = cc
+    new_estimate_good Kind.Estimate m e h = cc
     new_estimate_good Kind.NewEstimate m e h = h
-    new_estimate_good Kind.Ack m e h = false_true e
-    new_estimate_good Kind.Decide m e h = false_true e
+    new_estimate_good Kind.Ack m e h = cc
+    new_estimate_good Kind.Decide m e h = cc
 
     ack_good : (k : Kind) (m : Message) → is_ack k ≡ true → GoodAs R V C k m → (w : ℕ) × V m.sender w m.round
-    ack_good Kind.NewRound m e h = false_true e
-    ack_good Kind.Estimate m e h = false_true e
-    ack_good Kind.NewEstimate m e h = false_true e
+    ack_good Kind.NewRound m e h = cc
+    ack_good Kind.Estimate m e h = cc
+    ack_good Kind.NewEstimate m e h = cc
     ack_good Kind.Ack m e h = h
-    ack_good Kind.Decide m e h = false_true e
+    ack_good Kind.Decide m e h = cc
 
     decide_good : (k : Kind) (m : Message) → is_decide k ≡ true → GoodAs R V C k m → Chosen R V m.reading
-    decide_good Kind.NewRound m e h = false_true e
-    decide_good Kind.Estimate m e h = false_true e
-    decide_good Kind.NewEstimate m e h = false_true e
-    decide_good Kind.Ack m e h = false_true e
+    decide_good Kind.NewRound m e h = cc
+    decide_good Kind.Estimate m e h = cc
+    decide_good Kind.NewEstimate m e h = cc
+    decide_good Kind.Ack m e h = cc
     decide_good Kind.Decide m e h = h
 
     module _ (p : ℕ) (p1 : 1 ≤ p) where
@@ -109,13 +109,13 @@ module _ (R : Rule) where
       propose_ok v μ f e =
           let zero_round = S.silent p e in
           let x : Content = record { number = v; stamp = 0 } in
-          enter_ok R p p1 V C S 1 (remember (hold v 0) (write 1 v 0 (still μ))) (
+          enter_ok R p p1 V C S 1 (remember (hold v 0) (write CellName.Proposal v 0 (still μ))) (
             e,
             λ S' g. (
               record {
                 up = omega arith;
                 least = omega arith;
-                has = at_cell (λ o. o ≡ None → ⊥) p p (Some x) (C p 1) (λ _ n. some≢none refl n) (λ d. absurd (d refl));
+                has = at_cell (λ o. o ≡ None → ⊥) p p (Some x) (C p 1) (λ _ n. cc) (λ d. absurd (d refl));
               },
               inl refl,
               λ w s a. let b = S.bound p w s a in omega arith,
@@ -133,11 +133,11 @@ module _ (R : Rule) where
       resume_ok (Some d) v r w ev er ew = record { last = no_last; busy = λ i. absurd i }
       resume_ok None None r w ev er ew = record { last = no_last; busy = λ i. absurd i }
       resume_ok None (Some v) r None ev er ew =
-          let l = left_ok r er (some≢none ev) in
+          let l = left_ok r er (λ n. cc) in
           enter_ok R p p1 V C S (number_or r 1) (still (hold v.number 0 blank))
           (l, inl refl, λ x s a. rw ew at (S.top p x s a), (p, rw ev refl), no_last)
       resume_ok None (Some v) r (Some w) ev er ew =
-          let l = left_ok r er (some≢none ev) in
+          let l = left_ok r er (λ n. cc) in
           let a : V p w.number w.stamp = S.shown p w.number w.stamp (rw ew (refl, refl)) in
           enter_ok R p p1 V C S (number_or r 1) (still (hold w.number w.stamp blank))
           (l, inr a, λ x s c. rw ew at (S.top p x s c), S.known p w.number w.stamp a, no_last)
@@ -161,7 +161,7 @@ module _ (R : Rule) where
       accept_ok μ m i from vote f =
           let r = μ.round in
           let c = coord R r in
-          let a = f.busy (T_true (waiting_active μ.phase i)) in
+          let a = f.busy (rw (waiting_active μ.phase i) tt) in
           let W = plus V p m.reading r in
           let known = S.known c m.reading r vote in (
             record {
@@ -340,7 +340,7 @@ module _ (V : Votes) (s : State) (H : Holding (rule_of s) V s) where
   by_member : (p : ℕ) (cut : Option ℕ) (v : Verdict) → (1 ≤ p → Okay R V C v) → Okay R V C (need (cut_fits cut) CutTooLarge (need (member s p) NoSuchProcess v))
   by_member p cut v h = need_ok R V C H.sound (cut_fits cut) CutTooLarge _ λ _. need_ok R V C H.sound (member s p) NoSuchProcess v λ i. h (of_member p i)
 
-  pub verdict_ok : (c : Call) → Okay R V C (verdict c s)
+  pub verdict_ok : (c : PanelCall) → Okay R V C (verdict c s)
   verdict_ok (Propose p v cut) = by_member p cut (propose_at (status s p) p v cut s) (λ a. propose_at_ok (status s p) p v cut a refl)
   verdict_ok (Recover p cut) = by_member p cut (recover_at (status s p) p cut s) (λ a. recover_at_ok (status s p) p cut a)
   verdict_ok (Look p list cut) = by_member p cut (look_at (status s p) p list.now cut s) (λ a. look_at_ok (status s p) p list.now cut a refl)

@@ -15,7 +15,7 @@ use Rattle.process.specs.Meetings.{again, deliver}
 use Rattle.process.specs.Messages.{is_reading, well_formed}
 use Rattle.process.specs.Phases.{is_ack, is_done, is_gathering}
 use Rattle.process.specs.Rounds.{Step, propose, recover, still}
-use Rattle.agreement.specs.declared.call.Call.{Call}
+use Rattle.agreement.specs.Lists.{PanelCall}
 use Rattle.agreement.specs.declared.call.Call.TheVariants.{Propose, Recover, Look, Deliver, Again, Lose, Crash}
 use Rattle.agreement.specs.declared.call.Refusal.{Refusal}
 use Rattle.agreement.specs.declared.call.Refusal.TheVariants.{CutTooLarge, NoSuchProcess, NoMessage, AlreadyUp, ProcessDown, ProcessDone, AlreadyProposed, ProcessIdle, NotAReading, WrongList, NoRoundFits, EarlyAck}
@@ -213,7 +213,7 @@ abbrev pub look_of : ℕ → List (Option ℕ) → Option ℕ → State → Verd
 look_of p list cut s = need (cut_fits cut) CutTooLarge (need (member s p) NoSuchProcess (look_at (status s p) p list cut s))
 
 -- what a call comes to
-abbrev pub verdict : Call → State → Verdict
+abbrev pub verdict : PanelCall → State → Verdict
 verdict (Propose p v cut) s = propose_of p v cut s
 verdict (Recover p cut) s = recover_of p cut s
 verdict (Look p list cut) s = look_of p list.now cut s
@@ -227,6 +227,6 @@ abbrev pub done : (State → Verdict) → State → Outcome
 done v s = carried (v s) s
 
 -- all that is seen of calls made one after the other: the start, and the moments after each action and each call
-unfoldable pub run : List Call → State → List World
+unfoldable pub run : List PanelCall → State → List World
 run [] s = world s ∷ []
 run (c ∷ cs) s = shown (verdict c s) s ++ run cs (done (verdict c) s).after

@@ -10,7 +10,7 @@ use Rattle.process.specs.Looks.{epoch_of, epochs_fit, must_leave, next_round, tr
 use Rattle.process.specs.Messages.{is_reading, well_formed}
 use Rattle.process.specs.Phases.{is_done}
 use Rattle.process.specs.Rounds.{coordinator}
-use Rattle.agreement.specs.declared.call.Call.{Call}
+use Rattle.agreement.specs.Lists.{PanelCall}
 use Rattle.agreement.specs.declared.call.Call.TheVariants.{Propose, Recover, Look, Deliver, Again, Lose, Crash}
 use Rattle.agreement.specs.declared.call.Refusal.{Refusal}
 use Rattle.agreement.specs.declared.call.Refusal.TheVariants.{CutTooLarge, NoSuchProcess, NoMessage, AlreadyUp, ProcessDown, ProcessDone, AlreadyProposed, ProcessIdle, NotAReading, WrongList, NoRoundFits, EarlyAck}
@@ -40,7 +40,7 @@ abbrev pub no_round : ℕ → List (Option ℕ) → Memory → Bool
 no_round n list m = trusts_some list && must_leave (epoch_of list (coordinator n m.round)) m && not (is_some (next_round n list m))
 
 -- the causes for which a call may be refused
-abbrev pub causes : Call → State → List Cause
+abbrev pub causes : PanelCall → State → List Cause
 causes (Propose p v cut) s =
     (CutTooLarge, not (cut_fits cut))
     ∷ (NoSuchProcess, not (member s p))
@@ -90,7 +90,7 @@ addressee_of None = 0
 addressee_of (Some m) = m.addressee
 
 -- the process that a call is about, 0 where it is about none
-abbrev pub actor : Call → State → ℕ
+abbrev pub actor : PanelCall → State → ℕ
 actor (Propose p v cut) s = p
 actor (Recover p cut) s = p
 actor (Look p list cut) s = p
@@ -104,7 +104,7 @@ abbrev pub Apart : ℕ → State → State → Type 0
 Apart p s t = (q : ℕ) → 1 ≤ q → (q ≢ p) → (status t q ≡ status s q) × ((d : ℕ) → t.cells q d ≡ s.cells q d)
 
 -- what making a call on a state comes to
-pub record Answered (c : Call) (s : State) (o : Outcome) : Type 0 where
+pub record Answered (c : PanelCall) (s : State) (o : Outcome) : Type 0 where
   -- it is the verdict on the call, carried out
   pub value : o ≡ done (verdict c) s
   -- of the causes against it the one with the lowest number is told

@@ -1,4 +1,5 @@
 pub mod Calls
 pub mod Causes
+pub mod Lists
 pub mod Promise
 pub mod Worlds

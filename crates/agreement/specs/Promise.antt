@@ -2,7 +2,7 @@
 use Rattle.std.specs.Prelude.{◌≡◌, ℕ, suc, ◌<◌, ◌≤◌, Bool, true, ◌⊎◌, List, [], ◌∷◌, replicate, Some, None, Option}
 use Rattle.std.specs.List.{AllByRecursion}
 use Rattle.quorum.specs.Laws.{has, Shares}
-use Rattle.agreement.specs.declared.call.Call.{Call}
+use Rattle.agreement.specs.Lists.{PanelCall}
 use Rattle.store.specs.declared.content.Content.{Content}
 use Rattle.store.specs.Cells.{absent}
 use Rattle.process.specs.declared.memory.Status.TheVariants.{Down}
@@ -66,4 +66,4 @@ Fresh s = s ≡ fresh s.size s.enough s.places
 
 -- over every rule whose enough sets share a process, every number of places and every list of calls
 abbrev pub Agreed : Type 0
-Agreed = (n : ℕ) (enough : List Bool → Bool) → Shares n enough → (places : ℕ) (calls : List Call) → Agreement n enough (run calls (fresh n enough places))
+Agreed = (n : ℕ) (enough : List Bool → Bool) → Shares n enough → (places : ℕ) (calls : List PanelCall) → Agreement n enough (run calls (fresh n enough places))

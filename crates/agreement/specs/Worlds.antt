@@ -1,6 +1,7 @@
 -- What can be seen of a panel from outside, and what actions do to it.
 use Rattle.std.specs.Prelude.{ℕ, cond, List, [], ◌∷◌, ◌++◌, length, fold, nat_lt}
 use Rattle.store.specs.Cells.{Cells, put}
+use Rattle.store.specs.CellNames.{cell_number}
 use Rattle.process.specs.declared.message.Message.{Message}
 use Rattle.process.specs.declared.memory.Action.{Action}
 use Rattle.process.specs.declared.memory.Action.TheVariants.{Write, Send}
@@ -16,7 +17,7 @@ sent places box m = cond (nat_lt (length box) places) (box ++ m ∷ []) box
 
 -- one action of process p
 abbrev pub act : ℕ → ℕ → World → Action → World
-act places p w (Write c v) = record { cells = put w.cells p c v; box = w.box }
+act places p w (Write c v) = record { cells = put w.cells p (cell_number c) v; box = w.box }
 act places p w (Send m) = record { cells = w.cells; box = sent places w.box m }
 
 -- actions, in order

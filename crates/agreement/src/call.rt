@@ -1,17 +1,42 @@
 //! The calls of a panel as data, and its refusals.
 ghost use Rattle.std.specs.Prelude.{◌≡◌};
 ghost use Rattle.agreement.specs.Calls.{number, told};
+ghost use Rattle.agreement.specs.declared.call.Refusal.TheVariants.{NoRoundFits};
+ghost use Rattle.agreement.specs.Lists.{with_list};
 
-// A call with its process or place, and with its cut where it takes one.
-#[derive(Clone, Copy)]
-pub enum Call<'a> {
+use process::turn::NoRound;
+use std::convert::AsSlice;
+
+// A call with its process or place, and with its cut where it takes one; a look's list is of type L.
+#[derive(Clone, Copy, PartialEq, Eq, Debug)]
+pub enum Call<L> {
     Propose(u32, u32, Option<u32>),
     Recover(u32, Option<u32>),
-    Look(u32, &'a [Option<u32>], Option<u32>),
+    Look(u32, L, Option<u32>),
     Deliver(usize, Option<u32>),
     Again(u32, Option<u32>),
     Lose(usize),
     Crash(u32),
+}
+
+// A call as a panel makes it.
+pub type PanelCall<'a> = Call<&'a [Option<u32>]>;
+
+impl<L: AsSlice<Option<u32>>> Call<L> {
+    // The same call, with its list lent.
+    pub fn lent(&self) -> PanelCall<'_>
+        ensures { with_list (λ x. x.now) result ≡ with_list L.AsSlice.items self.now }
+    {
+        match self {
+            Call::Propose(p, reading, cut) => Call::Propose(*p, *reading, *cut),
+            Call::Recover(p, cut) => Call::Recover(*p, *cut),
+            Call::Look(p, list, cut) => Call::Look(*p, list.as_slice(), *cut),
+            Call::Deliver(place, cut) => Call::Deliver(*place, *cut),
+            Call::Again(p, cut) => Call::Again(*p, *cut),
+            Call::Lose(place) => Call::Lose(*place),
+            Call::Crash(p) => Call::Crash(*p),
+        }
+    }
 }
 
 // Why a call is refused.
@@ -32,7 +57,7 @@ pub enum Refusal {
 }
 
 impl Refusal {
-    // The number that a caller is told.
+    // The number that a caller is told. The format fixes it, and not the order of the variants.
     pub fn number(self) -> u32
         ensures { result ≡ number self }
     {
@@ -50,6 +75,15 @@ impl Refusal {
             Refusal::NoRoundFits => 11,
             Refusal::EarlyAck => 12,
         }
+    }
+}
+
+// A look that must enter a round where none fits is refused.
+impl From<NoRound> for Refusal {
+    ghost from_gives = { λ _ r. r ≡ NoRoundFits };
+
+    fn from(_: NoRound) -> Self {
+        Self::NoRoundFits
     }
 }
 

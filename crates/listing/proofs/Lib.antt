@@ -1,2 +1,3 @@
 mod Listings
 mod Printing
+mod Tables

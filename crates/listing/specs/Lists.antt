@@ -1,17 +1,15 @@
 -- The text of a list: a blank before each entry, or ` -` where there is none.
-use Rattle.std.specs.Prelude.{ℕ, suc, Bool, true, false, cond, List, [], ◌∷◌, ◌++◌, Some, None, codes, Option}
+use Rattle.std.specs.Prelude.{ℕ, suc, Bool, cond, List, [], ◌∷◌, ◌++◌, is_none, Some, None, codes, Option, flat_map}
+use Rattle.std.specs.List.{list_all}
+use Rattle.std.specs.Option.{option_to_list}
 
 -- no slot has an entry
 abbrev pub vacant : {X : Type 0} → List (Option X) → Bool
-vacant [] = true
-vacant (None ∷ xs) = vacant xs
-vacant (Some x ∷ xs) = false
+vacant xs = list_all is_none xs
 
--- the entries
+-- the entries, with a blank before each
 abbrev pub slots_text : {X : Type 0} → (X → List ℕ) → List (Option X) → List ℕ
-slots_text f [] = []
-slots_text f (None ∷ xs) = slots_text f xs
-slots_text f (Some x ∷ xs) = (codes " " ++ f x) ++ slots_text f xs
+slots_text f xs = flat_map (λ x. codes " " ++ f x) (flat_map option_to_list xs)
 
 -- a list
 abbrev pub list_text : {X : Type 0} → (X → List ℕ) → List (Option X) → List ℕ

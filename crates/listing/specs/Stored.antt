@@ -1,20 +1,18 @@
 -- A store as text.
-use Rattle.std.specs.Prelude.{ℕ, zero, suc, ◌+◌, ◌/◌, ◌%◌, cond, List, [], ◌++◌, is_some, None, Option}
+use Rattle.std.specs.Prelude.{ℕ, ◌+◌, ◌/◌, ◌%◌, List, is_some, Option, count_by, flat_map}
 use Rattle.printed.specs.Lines.{line}
 use Rattle.listing.specs.declared.lines.CellLine.{CellLine}
+use Rattle.std.specs.List.{range_with_len}
 use Rattle.std.specs.Option.{option_map}
-use Rattle.store.specs.Cells.{Cells}
-use Rattle.store.specs.Ranges.{is_cell}
-use Rattle.store.specs.declared.content.Content.{Content}
+use Rattle.store.specs.Cells.{Cells, held}
 
--- what a cell holds, none where there is no such cell
-abbrev pub held : Cells → ℕ → ℕ → Option Content
-held cs p c = cond (is_cell p c) (cs p c) None
+-- the line of cell k, counted from 0 by process and then by cell
+abbrev pub line_of : Cells → ℕ → List ℕ
+line_of cs k = line (held cs (k / 4 + 1) (k % 4 + 1))
 
 -- the first k lines: by process, and then by cell
 unfoldable pub store_lines : Cells → ℕ → List ℕ
-store_lines cs zero = []
-store_lines cs (suc k) = store_lines cs k ++ line (held cs (k / 4 + 1) (k % 4 + 1))
+store_lines cs k = flat_map (line_of cs) (range_with_len 0 k)
 
 -- the line of cell k, counted from 0, if it holds something
 abbrev pub told_cell : Cells → ℕ → Option CellLine
@@ -23,5 +21,4 @@ told_cell cs k =
 
 -- how many of the first k cells hold something
 unfoldable pub told_count : Cells → ℕ → ℕ
-told_count cs zero = 0
-told_count cs (suc k) = told_count cs k + cond (is_some (told_cell cs k)) 1 0
+told_count cs k = count_by (λ j. is_some (told_cell cs j)) (range_with_len 0 k)

@@ -2,13 +2,10 @@
 use Rattle.std.specs.Prelude.{ℕ, cond, List, ◌++◌, Some, None, codes, decimal, Option, ◌==◌}
 use Rattle.printed.specs.Faults.{line_and_column, number}
 use Rattle.process.specs.declared.memory.Memory.{Memory}
-use Rattle.process.specs.declared.memory.Phase.{Phase}
-use Rattle.process.specs.declared.memory.Phase.TheVariants.{Idle, Waiting, Acked, Gathering, Confirming, Done}
 use Rattle.process.specs.declared.memory.Status.{Status}
 use Rattle.process.specs.declared.memory.Status.TheVariants.{Down, Up}
-use Rattle.process.specs.declared.message.Kind.{Kind}
-use Rattle.process.specs.declared.message.Kind.TheVariants.{NewRound, Estimate, NewEstimate, Ack, Decide}
 use Rattle.process.specs.declared.message.Message.{Message}
+use Rattle.process.specs.Names.{kind_name, phase_name}
 use Rattle.listing.specs.Lists.{list_text, members_from}
 use Rattle.listing.specs.declared.lines.Answer.{Answer}
 use Rattle.listing.specs.declared.lines.CellLine.{CellLine}
@@ -17,23 +14,6 @@ use Rattle.listing.specs.declared.lines.Note.TheVariants.{Unread, CellCount, Tra
 use Rattle.listing.specs.declared.lines.TrayLine.{TrayLine}
 use Rattle.tray.specs.declared.kinds.Estimate.{Estimate as Offer}
 use Rattle.listing.specs.declared.record.ProcessLine.{ProcessLine}
-
--- the name of a kind
-abbrev pub kind_name : Kind → List ℕ
-kind_name NewRound = codes "NEWROUND"
-kind_name Estimate = codes "ESTIMATE"
-kind_name NewEstimate = codes "NEWESTIMATE"
-kind_name Ack = codes "ACK"
-kind_name Decide = codes "DECIDE"
-
--- the name of a phase
-abbrev pub phase_name : Phase → List ℕ
-phase_name Idle = codes "idle"
-phase_name Waiting = codes "waiting"
-phase_name Acked = codes "acked"
-phase_name Gathering = codes "gathering"
-phase_name Confirming = codes "confirming"
-phase_name Done = codes "done"
 
 -- the name of a cell
 abbrev pub cell_name : ℕ → List ℕ

@@ -1,12 +1,11 @@
 //! The lines that are told.
-ghost use Rattle.std.specs.Prelude.{◌≡◌, Some};
-ghost use Rattle.listing.specs.Texts.{answer_text, body_text, cell_name, cell_text, kind_name, note_text, phase_name, tray_text};
+ghost use Rattle.std.specs.Prelude.{Some};
+ghost use Rattle.listing.specs.Texts.{answer_text, cell_text, note_text, tray_text};
 
 use printed::fault::StoreFault;
-use process::memory::Phase;
-use process::message::{Kind, Message};
+use process::message::Message;
 use std::fmt;
-use store::content::{Content, PAIR, PROPOSAL, ROUND};
+use store::content::{CellName, Content};
 
 // An answer's number, and how many actions were done.
 #[derive(Clone, Copy)]
@@ -25,7 +24,8 @@ pub enum Note {
     Fault(StoreFault),
 }
 
-// A process's cell, and what it holds.
+// A process's cell, and what it holds. The cell is any number, since a name in a public field would ask more of who
+// fills it; what is no cell is told as the last.
 #[derive(Clone, Copy)]
 pub struct CellLine {
     pub process: u32,
@@ -38,51 +38,6 @@ pub struct CellLine {
 pub struct TrayLine {
     pub place: usize,
     pub message: Message,
-}
-
-// What a message says: its kind, round, reading and stamp.
-#[derive(Clone, Copy)]
-struct Body {
-    message: Message,
-}
-
-// The name of a kind.
-pub(crate) fn kind_word(kind: Kind) -> &'static str
-    ensures { result.now ≡ kind_name kind }
-{
-    match kind {
-        Kind::NewRound => "NEWROUND",
-        Kind::Estimate => "ESTIMATE",
-        Kind::NewEstimate => "NEWESTIMATE",
-        Kind::Ack => "ACK",
-        Kind::Decide => "DECIDE",
-    }
-}
-
-// The name of a phase.
-pub(crate) fn phase_word(phase: Phase) -> &'static str
-    ensures { result.now ≡ phase_name phase }
-{
-    match phase {
-        Phase::Idle => "idle",
-        Phase::Waiting => "waiting",
-        Phase::Acked => "acked",
-        Phase::Gathering => "gathering",
-        Phase::Confirming => "confirming",
-        Phase::Done => "done",
-    }
-}
-
-// The name of a cell.
-fn cell_word(cell: u32) -> &'static str
-    ensures { result.now ≡ cell_name cell }
-{
-    match cell {
-        PROPOSAL => "proposal",
-        ROUND => "round",
-        PAIR => "pair",
-        _ => "decision",
-    }
 }
 
 impl fmt::Display for Answer {
@@ -115,22 +70,13 @@ impl fmt::Display for CellLine {
     ghost output = { λ l. Some (cell_text l) };
 
     fn fmt<W: fmt::Write>(&self, f: &mut fmt::Formatter<W>) -> fmt::Result {
-        let process = self.process;
-        let name = cell_word(self.cell);
-        let Content { number, stamp } = self.content;
+        let CellLine {
+            process,
+            cell,
+            content: Content { number, stamp },
+        } = *self;
+        let name = CellName::try_from(cell).unwrap_or(CellName::Decision);
         write!(f, "{process} {name} {number} {stamp}")
-    }
-}
-
-impl fmt::Display for Body {
-    ghost output = { λ b. Some (body_text b.message) };
-
-    fn fmt<W: fmt::Write>(&self, f: &mut fmt::Formatter<W>) -> fmt::Result {
-        let kind = kind_word(self.message.kind);
-        let round = self.message.round;
-        let reading = self.message.reading;
-        let stamp = self.message.stamp;
-        write!(f, "{kind} {round} {reading} {stamp}")
     }
 }
 
@@ -138,11 +84,20 @@ impl fmt::Display for TrayLine {
     ghost output = { λ l. Some (tray_text l) };
 
     fn fmt<W: fmt::Write>(&self, f: &mut fmt::Formatter<W>) -> fmt::Result {
-        let place = self.place;
-        let message = self.message;
-        let sender = message.sender;
-        let addressee = message.addressee;
-        let body = Body { message };
-        write!(f, "{place} {sender} {addressee} {body}")
+        let TrayLine {
+            place,
+            message: Message {
+                sender,
+                addressee,
+                kind,
+                round,
+                reading,
+                stamp,
+            },
+        } = *self;
+        write!(
+            f,
+            "{place} {sender} {addressee} {kind} {round} {reading} {stamp}"
+        )
     }
 }

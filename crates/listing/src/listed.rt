@@ -4,10 +4,9 @@ ghost use Rattle.listing.specs.Lists.{list_text, members_from};
 ghost use Rattle.listing.specs.Texts.{last_text, offer_text};
 ghost use Rattle.std.specs.Fmt.{WritesOnOk};
 
-use super::lines::kind_word;
 use process::message::Message;
 use quorum::ProcessSet;
-use std::fmt;
+use std::{array, fmt};
 use tray::kinds::Estimate;
 
 // What there is for each process.
@@ -16,7 +15,8 @@ pub(crate) struct Listed<T> {
     pub slots: [Option<T>; 9],
 }
 
-// What is written of an entry.
+// What is written of an entry. Not `Display`, since a message is told in another form in the tray, and a number has
+// its own.
 pub(crate) trait Written {
     ghost text: { Self → List ℕ };
 
@@ -53,11 +53,14 @@ impl Written for Message {
     ghost text = { last_text };
 
     fn put<W: fmt::Write>(&self, f: &mut fmt::Formatter<W>) -> fmt::Result {
-        let addressee = self.addressee;
-        let kind = kind_word(self.kind);
-        let round = self.round;
-        let reading = self.reading;
-        let stamp = self.stamp;
+        let Message {
+            addressee,
+            kind,
+            round,
+            reading,
+            stamp,
+            ..
+        } = *self;
         write!(f, " {addressee}:{kind}:{round}:{reading}:{stamp}")
     }
 }
@@ -66,14 +69,13 @@ impl Written for Message {
 fn put_all<T: Written, W: fmt::Write>(slots: &[Option<T>], f: &mut fmt::Formatter<W>) -> fmt::Result
     ensures { WritesOnOk W.Write.write_str_gives f.old result (list_text T.Written.text slots.now) f.new }
 {
-    let mut vacant = true;
-    for slot in slots {
-        if let Some(x) = slot {
-            x.put(f)?;
-            vacant = false;
-        }
+    if slots.iter().all(Option::is_none) {
+        return f.write_str(" -");
     }
-    if vacant { f.write_str(" -") } else { Ok(()) }
+    for x in slots.iter().flatten() {
+        x.put(f)?;
+    }
+    Ok(())
 }
 
 impl<T: Written> fmt::Display for Listed<T> {
@@ -88,9 +90,7 @@ impl<T: Written> fmt::Display for Listed<T> {
 pub(crate) fn members_of(set: &ProcessSet) -> Listed<u32>
     ensures { result.slots ≡ members_from 1 set.now }
 {
-    let mut slots = [None; 9];
-    for i in 0..9u32 {
-        slots[i as usize] = if set[i as usize] { Some(i + 1) } else { None };
+    Listed {
+        slots: array::from_fn(|i| set[i].then_some(i as u32 + 1)),
     }
-    Listed { slots }
 }

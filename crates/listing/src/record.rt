@@ -1,8 +1,7 @@
 //! The line that is told of a process.
-ghost use Rattle.listing.specs.Texts.{epoch_text, figures_text, lists_text, process_text};
+ghost use Rattle.listing.specs.Texts.{epoch_text, process_text};
 ghost use Rattle.std.specs.Prelude.{Some};
 
-use super::lines::phase_word;
 use super::listed::{Listed, members_of};
 use process::memory::{Memory, Status};
 use std::fmt;
@@ -14,65 +13,18 @@ pub struct ProcessLine {
     pub status: Status,
 }
 
-// A noted epoch.
+// A noted epoch, or - where there is none; an Option prints nothing of itself.
 #[derive(Clone, Copy)]
-struct Epoch {
-    noted: Option<u32>,
-}
-
-// The numbers of a record.
-#[derive(Clone, Copy)]
-struct Figures {
-    memory: Memory,
-}
-
-// The lists of a record.
-#[derive(Clone, Copy)]
-struct Lists {
-    memory: Memory,
-}
+struct Epoch(Option<u32>);
 
 impl fmt::Display for Epoch {
-    ghost output = { λ e. Some (epoch_text e.noted) };
+    ghost output = { λ e. Some (epoch_text e.0) };
 
     fn fmt<W: fmt::Write>(&self, f: &mut fmt::Formatter<W>) -> fmt::Result {
-        match self.noted {
+        match self.0 {
             None => write!(f, "-"),
             Some(n) => write!(f, "{n}"),
         }
-    }
-}
-
-impl fmt::Display for Figures {
-    ghost output = { λ x. Some (figures_text x.memory) };
-
-    fn fmt<W: fmt::Write>(&self, f: &mut fmt::Formatter<W>) -> fmt::Result {
-        let round = self.memory.round;
-        let reading = self.memory.reading;
-        let stamp = self.memory.stamp;
-        let heard = self.memory.heard;
-        let epoch = Epoch {
-            noted: self.memory.epoch,
-        };
-        write!(
-            f,
-            "round {round} reading {reading} stamp {stamp} heard {heard} epoch {epoch}"
-        )
-    }
-}
-
-impl fmt::Display for Lists {
-    ghost output = { λ x. Some (lists_text x.memory) };
-
-    fn fmt<W: fmt::Write>(&self, f: &mut fmt::Formatter<W>) -> fmt::Result {
-        let kept = Listed {
-            slots: self.memory.kept,
-        };
-        let acks = members_of(&self.memory.acknowledgers);
-        let last = Listed {
-            slots: self.memory.last,
-        };
-        write!(f, "kept{kept} acks{acks} last{last}")
     }
 }
 
@@ -84,10 +36,22 @@ impl fmt::Display for ProcessLine {
         match self.status {
             Status::Down => write!(f, "process {p} down"),
             Status::Up(memory) => {
-                let phase = phase_word(memory.phase);
-                let figures = Figures { memory };
-                let lists = Lists { memory };
-                write!(f, "process {p} {phase} {figures} {lists}")
+                let Memory {
+                    phase,
+                    round,
+                    reading,
+                    stamp,
+                    heard,
+                    ..
+                } = memory;
+                let epoch = Epoch(memory.epoch);
+                let kept = Listed { slots: memory.kept };
+                let acks = members_of(&memory.acknowledgers);
+                let last = Listed { slots: memory.last };
+                write!(
+                    f,
+                    "process {p} {phase} round {round} reading {reading} stamp {stamp} heard {heard} epoch {epoch} kept{kept} acks{acks} last{last}"
+                )
             }
         }
     }

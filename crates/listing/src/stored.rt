@@ -1,32 +1,28 @@
 //! A store as the text that is printed for it.
-ghost use Rattle.std.specs.Prelude.{◌≡◌};
-ghost use Rattle.listing.specs.Stored.{held, store_lines, told_cell, told_count};
+ghost use Rattle.std.specs.Prelude.{◌≡◌, ◌<◌};
+ghost use Rattle.listing.specs.Stored.{line_of, store_lines, told_cell, told_count};
 
 use super::lines::CellLine;
 use printed::printing::print_line;
-use store::Store;
-use store::content::Content;
-
-// What a cell holds; none where there is no such cell.
-fn held<S: Store>(store: &S, process: u32, cell: u32) -> Option<Content>
-    ensures { result ≡ held (S.Store.cells store.now) process cell }
-{
-    match store.read(process, cell) {
-        Ok(content) => content,
-        Err(_) => None,
-    }
-}
+use std::array;
+use store::content::cell_at;
+use store::{Store, held};
 
 // The 36 lines of a store.
 pub fn store_text<S: Store>(store: &S) -> [u8; 576]
     ensures { result ≡ store_lines (S.Store.cells store.now) 36 }
 {
-    let mut text = [b' '; 576];
-    for k in 0..36 {
-        let line = print_line(held(store, k / 4 + 1, k % 4 + 1));
-        let start = 16 * k as usize;
-        text[start..start + 16].copy_from_slice(&line);
-    }
+    let lines: [[u8; 16]; 36] = array::from_fn(
+        |k|
+            requires { k < 36 }
+            ensures { result ≡ line_of (S.Store.cells store.entry.now) k }
+        {
+            let (process, cell) = cell_at(k as u32);
+            print_line(held(store, process, cell))
+        },
+    );
+    let mut text = [0; 576];
+    text.copy_from_slice(lines.as_flattened());
     text
 }
 
@@ -34,27 +30,17 @@ pub fn store_text<S: Store>(store: &S) -> [u8; 576]
 pub fn cell_line<S: Store>(store: &S, k: u32) -> Option<CellLine>
     ensures { result ≡ told_cell (S.Store.cells store.now) k }
 {
-    let process = k / 4 + 1;
-    let cell = k % 4 + 1;
-    match held(store, process, cell) {
-        Some(content) => Some(CellLine {
-            process,
-            cell,
-            content,
-        }),
-        None => None,
-    }
+    let (process, cell) = cell_at(k);
+    held(store, process, cell).map(|content| CellLine {
+        process,
+        cell,
+        content,
+    })
 }
 
 // How many cells hold something.
 pub fn count_cells<S: Store>(store: &S) -> usize
     ensures { result ≡ told_count (S.Store.cells store.now) 36 }
 {
-    let mut count = 0;
-    for k in 0..36 {
-        if cell_line(store, k).is_some() {
-            count += 1;
-        }
-    }
-    count
+    (0..36).filter(|k| cell_line(store, *k).is_some()).count()
 }

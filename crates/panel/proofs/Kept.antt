@@ -1,22 +1,13 @@
 -- Records in range.
-use Rattle.std.proofs.Common.{◌≡◌, ℕ, zero, suc, ◌-◌, ◌≤◌, true, false, ◌&&◌, leb, List, [], ◌∷◌, get_or, set, is_some, None, sym, refl, ap, ◌∙◌, arith}
-use Rattle.std.proofs.lemmas.Bool.{true≢false}
+use Rattle.std.proofs.Common.{◌≡◌, ℕ, zero, suc, ◌-◌, ◌≤◌, true, List, [], ◌∷◌, get_or, set, None, sym, refl, ap, ◌∙◌, arith}
 use Rattle.tray.specs.Items.{element, without}
 use Rattle.process.specs.declared.memory.Phase.{Phase}
 use Rattle.process.specs.declared.memory.Phase.TheVariants.{Idle, Waiting, Acked, Gathering, Confirming, Done}
-use Rattle.process.specs.Phases.{is_active, is_done}
+use Rattle.process.specs.Phases.{is_active}
 use Rattle.process.specs.declared.memory.Status.{Status}
 use Rattle.process.specs.declared.memory.Status.TheVariants.{Down}
-use Rattle.agreement.proofs.Ranges.{within}
+use Rattle.agreement.proofs.Plans.{at_set}
 use Rattle.panel.specs.Records.{Ranged, status_fits}
-
--- a family over places that holds of a list holds after an element is overwritten
-at_set : {A : Type 0} (P : ℕ → A → Type 0) (xs : List A) (i j : ℕ) (x d : A) → P i x → P j (get_or xs j d) → P j (get_or (set xs i x) j d)
-at_set P [] i j x d h k = k
-at_set P (y ∷ ys) zero zero x d h k = h
-at_set P (y ∷ ys) zero (suc j) x d h k = k
-at_set P (y ∷ ys) (suc i) zero x d h k = k
-at_set P (y ∷ ys) (suc i) (suc j) x d h k = at_set (λ l. P (suc l)) ys i j x d h k
 
 pub ranged_put : (records : List Status) (p : ℕ) (s : Status) → 1 ≤ p → Ranged records → status_fits p s ≡ true → Ranged (set records (p - 1) s)
 ranged_put records p s low h f j =
@@ -27,10 +18,6 @@ pub ranged_at : (records : List Status) (p : ℕ) (s : Status) → 1 ≤ p → R
 ranged_at records p s low h e =
     let same : p ≡ suc (p - 1) = omega arith in
     ap (λ q. status_fits q s) same ∙ ap (status_fits (suc (p - 1))) e ∙ h (p - 1)
-
--- a process that is a member
-pub member_high : (n p q : ℕ) → true ≡ leb 1 p && leb p n → q ≡ p → q ≤ n
-member_high n p q e same = omega (arith, (within 1 n p (sym e)).1)
 
 -- in a round
 pub active_from : (f : Phase) → (f ≡ Idle → ⊥) → (f ≡ Done → ⊥) → is_active f ≡ true
@@ -46,13 +33,5 @@ pub without_none : {A : Type 0} (xs : List A) (i : ℕ) → element xs i ≡ Non
 without_none xs zero e = refl
 without_none [] (suc zero) e = refl
 without_none [] (suc (suc i)) e = refl
-without_none (x ∷ xs) (suc zero) e = absurd (true≢false (ap is_some e))
+without_none (x ∷ xs) (suc zero) e = cc
 without_none (x ∷ xs) (suc (suc i)) e = ap (λ l. x ∷ l) (without_none xs (suc i) e)
-
-pub not_done : (f : Phase) → (f ≡ Done → ⊥) → is_done f ≡ false
-not_done Idle d = refl
-not_done Waiting d = refl
-not_done Acked d = refl
-not_done Gathering d = refl
-not_done Confirming d = refl
-not_done Done d = absurd (d refl)

@@ -1,4 +1,3 @@
 mod Kept
 mod Performs
-mod Verdicts
 mod Sittings

@@ -2,22 +2,22 @@
 use Rattle.std.proofs.Common.{◌≡◌, ℕ, ◌+◌, ◌<◌, ◌≤◌, List, [], ◌∷◌, ◌++◌, length, get_or, take, drop, set, Result, sym, refl, ap, ◌∙◌, subst, arith}
 use Rattle.std.proofs.lemmas.List.{drop_more, drop-set-lt, length-take-le, take-append-drop, take_more, take_more_set}
 use Rattle.quorum.specs.Laws.{Shares}
-use Rattle.agreement.specs.declared.call.Call.{Call}
+use Rattle.agreement.specs.Lists.{PanelCall}
 use Rattle.agreement.specs.declared.call.Refusal.{Refusal}
 use Rattle.agreement.specs.Calls.{Outcome, State, done, run, verdict}
 use Rattle.agreement.specs.Promise.{Agreement}
 use Rattle.agreement.proofs.Ends.{promise}
 use Rattle.panel.specs.Sittings.{Sat, answers_of, final}
 
-final_push : (cs : List Call) (c : Call) (s : State) → final (cs ++ (c ∷ [])) s ≡ (done (verdict c) (final cs s)).after
+final_push : (cs : List PanelCall) (c : PanelCall) (s : State) → final (cs ++ (c ∷ [])) s ≡ (done (verdict c) (final cs s)).after
 final_push [] c s = refl
 final_push (b ∷ cs) c s = final_push cs c (done (verdict b) s).after
 
-answers_push : (cs : List Call) (c : Call) (s : State) → answers_of (cs ++ (c ∷ [])) s ≡ answers_of cs s ++ ((done (verdict c) (final cs s)).answer ∷ [])
+answers_push : (cs : List PanelCall) (c : PanelCall) (s : State) → answers_of (cs ++ (c ∷ [])) s ≡ answers_of cs s ++ ((done (verdict c) (final cs s)).answer ∷ [])
 answers_push [] c s = refl
 answers_push (b ∷ cs) c s = ap (λ l. (done (verdict b) s).answer ∷ l) (answers_push cs c (done (verdict b) s).after)
 
-module _ (calls : List Call) (i : ℕ) (start here : State) (c d : Call) (o : Outcome) (h : i < length calls) (is : c ≡ get_or calls i d)
+module _ (calls : List PanelCall) (i : ℕ) (start here : State) (c d : PanelCall) (o : Outcome) (h : i < length calls) (is : c ≡ get_or calls i d)
     (so : here ≡ final (take i calls) start) (made : o ≡ done (verdict c) here) where
   one_more : take i calls ++ (c ∷ []) ≡ take (i + 1) calls
   one_more = sym (take_more calls i d h ∙ ap (λ x. take i calls ++ (x ∷ [])) (sym is))
@@ -42,7 +42,7 @@ pub rest_more : {A : Type 0} (xs ys : List A) (i : ℕ) (y : A) → i < length x
 unfolding tail
 rest_more xs ys i y h long e = drop-set-lt (i + 1) xs i y (omega arith) ∙ ap tail (sym (drop_more xs i y h) ∙ e ∙ drop_more ys i y (omega arith))
 
-pub sat : {s t : State} → Shares s.size s.enough → (calls : List Call) (i : ℕ) (before answers : List (Result ℕ Refusal)) → i ≤ length calls
+pub sat : {s t : State} → Shares s.size s.enough → (calls : List PanelCall) (i : ℕ) (before answers : List (Result ℕ Refusal)) → i ≤ length calls
     → t ≡ final (take i calls) s → take i answers ≡ answers_of (take i calls) s → drop i answers ≡ drop i before → Sat (take i calls) s t before answers
 sat {s} {t} shares calls i before answers h so told rest = record {
   after = so;

@@ -1,39 +1,31 @@
 -- Numbers in columns.
-use Rattle.std.proofs.Common.{◌≡◌, ℕ, zero, suc, ◌+◌, ◌*◌, ◌/◌, ◌%◌, ◌^◌, ◌<◌, ◌≤◌, eqb, [], ◌∷◌, length, take, refl, ap, ◌∙◌, inl, inr, zero-le, add-zero, add-suc, pow-suc, add-one, arith, lit<}
+use Rattle.std.proofs.Common.{◌≡◌, ℕ, zero, suc, ◌+◌, ◌*◌, ◌/◌, ◌^◌, ◌<◌, ◌≤◌, [], ◌∷◌, length, take, refl, ◌∙◌, add-zero, add-suc, pow-suc, arith, lit<}
 use native.Mathlib.Nat.{pow-le-pow_right}
-use Rattle.std.proofs.lemmas.List.{length_push, take-append-le, take_all, same_from_push}
-use Rattle.std.proofs.lemmas.Bool.{cases_eq, eq-eqb, ne_eqb, cond-true, cond-false}
+use Rattle.std.proofs.lemmas.List.{length-append, take-append-le, take_all, same_from_push}
 use Rattle.printed.specs.Fields.{figure, leading, justified}
 
 pub ten_pos : (k : ℕ) → 0 < 10 ^ k
-ten_pos k = let h : 10 ^ 0 ≤ 10 ^ k = pow-le-pow_right {n = 10} (lit< tt) zero-le in h
+ten_pos zero = lit< tt
+ten_pos (suc k) = rw pow-suc (omega (arith, ten_pos k))
 
-pub ten_below : (n i j : ℕ) → n < 10 ^ i → i ≤ j → n < 10 ^ j
-ten_below n i j h l = let p : 10 ^ i ≤ 10 ^ j = pow-le-pow_right {n = 10} (lit< tt) l in omega arith
+-- at most 8 figures
+pub eight_figures : (n i : ℕ) → n < 10 ^ i → i ≤ 8 → n < 100000000
+eight_figures n i h l = let p : 10 ^ i ≤ 10 ^ 8 = pow-le-pow_right {n = 10} (lit< tt) l in omega arith
 
 pub length_leading : (w m : ℕ) → length (leading w m) ≡ w
 length_leading zero m = refl
-length_leading (suc w) m = length_push (leading w (m / 10)) (figure m) ∙ (ap (λ (n : ℕ). n + 1) (length_leading w (m / 10)) ∙ add-one w)
+length_leading (suc w) m = simp length-append (omega (arith, length_leading w (m / 10)))
 
 pub length_justified : (w n : ℕ) → length (justified w n) ≡ w
 length_justified zero n = refl
-length_justified (suc w) n = length_push (leading w (n / 10)) (48 + n % 10) ∙ (ap (λ (k : ℕ). k + 1) (length_leading w (n / 10)) ∙ add-one w)
-
-pub figure_zero : (m : ℕ) → m ≡ 0 → figure m ≡ 32
-figure_zero m e = cond-true (eqb m 0) 32 (48 + m % 10) (eq-eqb m 0 e)
-
-pub figure_more : (m : ℕ) → (m ≡ 0 → ⊥) → figure m ≡ 48 + m % 10
-figure_more m e = cond-false (eqb m 0) 32 (48 + m % 10) (ne_eqb m 0 e)
+length_justified (suc w) n = simp length-append (omega (arith, length_leading w (n / 10)))
 
 -- a number is known from the tenth of it and its figure
-pub same_figure : (m n : ℕ) → m / 10 ≡ n / 10 → figure m ≡ figure n → m ≡ n
-same_figure m n d f = elim (cases_eq m 0) [
-  | inl a ↦ elim (cases_eq n 0) [ inl b ↦ omega arith | inr b ↦ absurd (omega (arith, figure_zero m a, figure_more n b)) ]
-  | inr a ↦ elim (cases_eq n 0) [ inl b ↦ absurd (omega (arith, figure_more m a, figure_zero n b)) | inr b ↦ omega (arith, figure_more m a, figure_more n b) ]
-]
+same_figure : (m n : ℕ) → m / 10 ≡ n / 10 → figure m ≡ figure n → m ≡ n
+same_figure m n d f = grind arith
 
 pub tenth_below : (w m : ℕ) → m < 10 ^ suc w → m / 10 < 10 ^ w
-tenth_below w m h = omega (arith, rw pow-suc at h)
+tenth_below w m h = grind (arith, pow-suc)
 
 pub same_leading : (w m n : ℕ) → m < 10 ^ w → n < 10 ^ w → leading w m ≡ leading w n → m ≡ n
 same_leading zero m n hm hn e = omega arith

@@ -1,5 +1,11 @@
 -- A field, read column by column.
-use Rattle.std.proofs.Common.{◌≡◌, ℕ, zero, suc, ◌+◌, ◌-◌, ◌*◌, ◌/◌, ◌%◌, ◌^◌, ◌<◌, ◌≤◌, List, [], ◌∷◌, ◌++◌, length, get_or, take, Some, None, sym, refl, ap, ◌∙◌, subst, add-zero, add-suc, pow-suc, add-one, arith}
+use Rattle.std.proofs.Common.{◌≡◌, ℕ, zero, suc, ◌+◌, ◌-◌, ◌*◌, ◌/◌, ◌%◌, ◌^◌, ◌<◌, ◌≤◌, List, [], ◌∷◌, ◌++◌, length, get_or, take, Some, None, Err, Option, sym, refl, ap, ◌∙◌, subst, add-zero, add-suc, pow-suc, add-one, arith}
+use Rattle.std.specs.List.{AllWithin, HoldsAt}
+use Rattle.std.specs.Option.{ok_or, MatchOption}
+use Rattle.std.specs.Result.{MatchResult}
+use Rattle.printed.specs.declared.part.Part.{Part}
+use Rattle.printed.specs.declared.fault.FieldFault.{FieldFault}
+use Rattle.printed.specs.Faults.{FieldWrong}
 use Rattle.std.proofs.lemmas.List.{take_more, take-append-le, take_all, same_from_push}
 use Rattle.printed.specs.Fields.{figure, leading, justified, Field, FieldShape, NumberShape, BlankShape, WrongAt}
 use Rattle.printed.proofs.Columns.{ten_pos, length_leading, length_justified, same_leading, tenth_below, take_leading, more_leading}
@@ -8,10 +14,10 @@ use Rattle.printed.proofs.Columns.{ten_pos, length_leading, length_justified, sa
 pub front_from_shape : (i j : ℕ) (ys : List ℕ) → FieldShape (suc (i + j)) ys → (n : ℕ) × (n < 10 ^ i) × (take i ys ≡ leading i n)
 front_from_shape i j ys (None, r, e) =
     let p = take_leading i j 0 (ten_pos (i + j)) in
-    (p.0, p.1, rw e (take-append-le i (leading (i + j) 0) (32 ∷ []) (omega (arith, length_leading (i + j) 0)) ∙ p.2))
+    (p.0, p.1, rw (e, take-append-le i (leading (i + j) 0) (32 ∷ []) (omega (arith, length_leading (i + j) 0))) p.2)
 front_from_shape i j ys (Some k, r, e) =
     let p = take_leading i j (k / 10) (omega (arith, rw pow-suc at r)) in
-    (p.0, p.1, rw e (take-append-le i (leading (i + j) (k / 10)) ((48 + k % 10) ∷ []) (omega (arith, length_leading (i + j) (k / 10))) ∙ p.2))
+    (p.0, p.1, rw (e, take-append-le i (leading (i + j) (k / 10)) ((48 + k % 10) ∷ []) (omega (arith, length_leading (i + j) (k / 10)))) p.2)
 
 pub shape_from_front : (i j n : ℕ) → n < 10 ^ i → (ys : List ℕ) × FieldShape (suc (i + j)) ys × (take i ys ≡ leading i n)
 shape_from_front i j n h =
@@ -40,10 +46,7 @@ module _ (xs : List ℕ) (i n : ℕ) (read : Front xs i n) (more : i < length xs
   small = read.1
 
   next : take (suc i) xs ≡ leading i n ++ get_or xs i 0 ∷ []
-  next = rw (← add-one i) (take_more xs i 0 more ∙ ap (λ (l : List ℕ). l ++ get_or xs i 0 ∷ []) front)
-
-  pub read_more : (m : ℕ) → m / 10 ≡ n → figure m ≡ get_or xs i 0 → Front xs (i + 1) m
-  read_more m t f = let h : n < 10 ^ i = small in rw add-one (next ∙ rw (t, f), rw pow-suc (omega arith))
+  next = rw (← add-one i) (take_more xs i 0 more ∙ rw front refl)
 
   -- some right field begins as xs does before b
   before : (ys : List ℕ) × FieldShape (length xs) ys × (take (i + 1 - 1) ys ≡ take (i + 1 - 1) xs)
@@ -59,7 +62,7 @@ module _ (xs : List ℕ) (i n : ℕ) (read : Front xs i n) (more : i < length xs
     before = before;
     after = λ ys s t.
         let e : length xs ≡ suc (suc i + (length xs - suc (suc i))) = omega arith in
-        let q = front_from_shape (suc i) (length xs - suc (suc i)) ys (subst (λ (w : ℕ). FieldShape w ys) e s) in
+        let q = front_from_shape (suc i) (length xs - suc (suc i)) ys (rw e at s) in
         let t' : take (suc i) ys ≡ take (suc i) xs = rw add-one at t in
         let p = same_from_push (leading i (q.0 / 10)) (leading i n) (figure q.0) (get_or xs i 0) (sym q.2 ∙ (t' ∙ next)) in
         none q.0 (same_leading i (q.0 / 10) n (tenth_below i q.0 q.1) small p.0) p.1;
@@ -69,7 +72,7 @@ module _ (xs : List ℕ) (i n : ℕ) (read : Front xs i n) (more : i < length xs
   wrong_last l blank digit = record {
     within = (omega arith, omega arith);
     before = before;
-    after = λ ys s t. after ys (subst (λ (w : ℕ). FieldShape w ys) l s) (rw add-one at t);
+    after = λ ys s t. after ys (rw l at s) (rw add-one at t);
   } where
     after : (ys : List ℕ) → FieldShape (suc i) ys → take (suc i) ys ≡ take (suc i) xs → ⊥
     after ys (None, r, e) t =
@@ -81,36 +84,21 @@ module _ (xs : List ℕ) (i n : ℕ) (read : Front xs i n) (more : i < length xs
         let p = same_from_push (leading i (k / 10)) (leading i n) (48 + k % 10) (get_or xs i 0) (sym e ∙ (sym a ∙ (t ∙ next))) in
         digit (omega (arith, p.1)) (omega (arith, p.1))
 
-  whole : length xs ≡ suc i → xs ≡ leading i n ++ get_or xs i 0 ∷ []
-  whole l = sym (take_all (suc i) xs (omega arith)) ∙ next
-
-  pub read_blank : length xs ≡ suc i → n ≡ 0 → get_or xs i 0 ≡ 32 → Field xs None
-  read_blank l z b = (tt, rw l (whole l ∙ rw (z, b)))
-
-  pub read_number : length xs ≡ suc i → 48 ≤ get_or xs i 0 → get_or xs i 0 ≤ 57 → Field xs (Some (n * 10 + (get_or xs i 0 - 48)))
-  read_number l lo hi =
-      let t : (n * 10 + (get_or xs i 0 - 48)) / 10 ≡ n = omega arith in
-      let d : 48 + (n * 10 + (get_or xs i 0 - 48)) % 10 ≡ get_or xs i 0 = omega arith in
-      let h : n < 10 ^ i = small in
-      (rw (l, pow-suc) (omega arith), rw l (whole l ∙ rw (t, d)))
-
 -- ---- a field that may not be blank
-zero_front : (c w : ℕ) → 0 < w → c ≤ w → take (c - 1) (justified w 0) ≡ take (c - 1) (leading w 0)
-zero_front c zero z l = refl
-zero_front c (suc w) z l =
-    let h : c - 1 ≤ length (leading w 0) = omega (arith, length_leading w 0) in
-    take-append-le (c - 1) (leading w 0) (48 ∷ []) h ∙ sym (take-append-le (c - 1) (leading w 0) (32 ∷ []) h)
+zero_front : (c w : ℕ) → c ≤ w → take (c - 1) (justified w 0) ≡ take (c - 1) (leading w 0)
+zero_front c zero l = refl
+zero_front c (suc w) l = grind (arith, take-append-le, length_leading w 0)
 
-number_before : (xs : List ℕ) (w c : ℕ) → 0 < w → c ≤ w
+number_before : (xs : List ℕ) (w c : ℕ) → c ≤ w
     → (ys : List ℕ) × FieldShape w ys × (take (c - 1) ys ≡ take (c - 1) xs) → (ys : List ℕ) × NumberShape w ys × (take (c - 1) ys ≡ take (c - 1) xs)
-number_before xs w c z l (ys, (None, r, e), t) =
-    (justified w 0, (0, ten_pos w, refl), zero_front c w z l ∙ (ap (take (c - 1)) (sym e) ∙ t))
-number_before xs w c z l (ys, (Some n, r, e), t) = (ys, (n, r, e), t)
+number_before xs w c l (ys, (None, r, e), t) =
+    (justified w 0, (0, ten_pos w, refl), zero_front c w l ∙ (ap (take (c - 1)) (sym e) ∙ t))
+number_before xs w c l (ys, (Some n, r, e), t) = (ys, (n, r, e), t)
 
 pub wrong_number : (xs : List ℕ) (c : ℕ) → WrongAt (FieldShape (length xs)) xs c → WrongAt (NumberShape (length xs)) xs c
 wrong_number xs c wrong = record {
   within = wrong.within;
-  before = number_before xs (length xs) c (omega (arith, wrong.within)) wrong.within.1 wrong.before;
+  before = number_before xs (length xs) c wrong.within.1 wrong.before;
   after = λ ys s. wrong.after ys (Some s.0, s.1, s.2);
 }
 
@@ -125,33 +113,47 @@ blank_after xs (suc w) z l b ys (n, r, e) t =
 pub blank_number : (xs : List ℕ) → 0 < length xs → Field xs None → WrongAt (NumberShape (length xs)) xs (length xs)
 blank_number xs z f = record {
   within = (z, omega arith);
-  before = number_before xs (length xs) (length xs) z (omega arith) (xs, (None, tt, f.1), refl);
+  before = number_before xs (length xs) (length xs) (omega arith) (xs, (None, tt, f.1), refl);
   after = blank_after xs (length xs) z refl f.1;
 }
 
+-- what was read may not be blank
+pub number_cases : (part : Part) (v : Option ℕ) (f : FieldFault) → Field part.bytes.now v → f.line ≡ part.line → f.column ≡ part.start + length part.bytes.now
+    → MatchResult (ok_or v f) (λ n. Field part.bytes.now (Some n)) (FieldWrong (NumberShape (length part.bytes.now)) part)
+number_cases part None f h l k = (l, (_, k, blank_number part.bytes.now part.width.0 h))
+number_cases part (Some n) f h l k = h
+
 -- ---- a field that must be blank
-pub take_blank : (i j : ℕ) → take i (leading (i + j) 0) ≡ leading i 0
-take_blank i zero = rw add-zero (take_all i (leading i 0) (omega (arith, length_leading i 0)))
-take_blank i (suc j) = rw add-suc (take-append-le i (leading (i + j) 0) (32 ∷ []) (omega (arith, length_leading (i + j) 0)) ∙ take_blank i j)
+front_blank : (i j : ℕ) → take i (leading (i + j) 0) ≡ leading i 0
+front_blank i zero = rw add-zero (take_all i (leading i 0) (omega (arith, length_leading i 0)))
+front_blank i (suc j) = rw add-suc (take-append-le i (leading (i + j) 0) (32 ∷ []) (omega (arith, length_leading (i + j) 0)) ∙ front_blank i j)
 
-front_blank : (i w : ℕ) → i ≤ w → take i (leading w 0) ≡ leading i 0
-front_blank i w l = let e : w ≡ i + (w - i) = omega arith in rw e (take_blank i (w - i))
+-- the columns before i are blank
+blank_to : (xs : List ℕ) (i : ℕ) → i ≤ length xs → AllWithin (λ b. b ≡ 32) xs 0 i → take i xs ≡ leading i 0
+blank_to xs zero l all = refl
+blank_to xs (suc i) l all =
+    rw (← add-one i) (take_more xs i 0 (omega arith) ∙ rw (blank_to xs i (omega arith) (λ k d a b. all k d a (omega arith)), all i 0 (omega arith) (omega arith)) refl)
 
-pub wrong_blank : (xs : List ℕ) (i : ℕ) → take i xs ≡ leading i 0 → i < length xs → (get_or xs i 0 ≡ 32 → ⊥) → WrongAt (BlankShape (length xs)) xs (i + 1)
-wrong_blank xs i f l ne =
+-- by the first column that is not blank
+pub blank_cases : (xs : List ℕ) (r : Option ℕ)
+    → MatchOption r (AllWithin (λ b. b ≡ 32) xs 0 (length xs)) (λ i. (i < length xs) × HoldsAt (λ b. b ≡ 32 → ⊥) xs i × AllWithin (λ b. b ≡ 32) xs 0 i)
+    → MatchOption r (Field xs None) (λ i. WrongAt (BlankShape (length xs)) xs (i + 1))
+blank_cases xs None all = (tt, sym (take_all (length xs) xs (omega arith)) ∙ blank_to xs (length xs) (omega arith) all)
+blank_cases xs (Some i) (l, ne, all) =
     let k : i + 1 - 1 ≡ i = omega arith in
+    let f : take i xs ≡ leading i 0 = blank_to xs i (omega arith) all in
+    let front : (m : ℕ) → m ≤ length xs → take m (leading (length xs) 0) ≡ leading m 0 = λ m h.
+    let e : length xs ≡ m + (length xs - m) = omega arith in rw e (front_blank m (length xs - m)) in
     record {
       within = (omega arith, omega arith);
-      before = (leading (length xs) 0, refl, rw k (front_blank i (length xs) (omega arith) ∙ sym f));
+      before = (leading (length xs) 0, refl, rw k (front i (omega arith) ∙ sym f));
       after = λ ys e t.
           let t' : take (suc i) ys ≡ take (suc i) xs = rw add-one at t in
           let p = same_from_push (leading i 0) (leading i 0) 32 (get_or xs i 0)
-          (sym (front_blank (suc i) (length xs) (omega arith)) ∙ (ap (take (suc i)) (sym e) ∙ (t' ∙ next xs i 0 (f, ten_pos i) l))) in
-          ne (sym p.1);
+          (sym (front (suc i) (omega arith)) ∙ (ap (take (suc i)) (sym e) ∙ (t' ∙ next xs i 0 (f, ten_pos i) l))) in
+          ne 0 (sym p.1);
     }
 
-pub blank_more : (xs : List ℕ) (i : ℕ) → take i xs ≡ leading i 0 → i < length xs → get_or xs i 0 ≡ 32 → take (i + 1) xs ≡ leading (i + 1) 0
-blank_more xs i f l b = (read_more xs i 0 (f, ten_pos i) l 0 refl (sym b)).0
-
-pub blank_all : (xs : List ℕ) (i : ℕ) → take i xs ≡ leading i 0 → i ≡ length xs → Field xs None
-blank_all xs i f e = (tt, sym (take_all i xs (omega arith)) ∙ (f ∙ ap (λ (w : ℕ). leading w 0) e))
+-- what `ok_or` gives where it refuses
+pub refused : {T E : Type 0} (o : Option T) (e d : E) → ok_or o e ≡ Err d → (o ≡ None) × (d ≡ e)
+refused o e d h = grind arith

@@ -3,5 +3,4 @@ mod Fields
 mod Kept
 mod LineParts
 mod Slots
-mod Writes
 mod Wrong

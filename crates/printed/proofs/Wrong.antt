@@ -16,7 +16,7 @@ pub wrong_byte : (b d : ℕ) → (b ≡ d → ⊥) → WrongAt (λ ys. ys ≡ d 
 wrong_byte b d ne = record {
   within = (omega arith, omega arith);
   before = (d ∷ [], refl, refl);
-  after = λ ys e t. let q : d ∷ [] ≡ b ∷ [] = ap (take 1) (sym e) ∙ t in let z : b ≡ d = cc in ne z;
+  after = λ ys e t. ne cc;
 }
 
 -- a part of a text is wrong, where its front is right: any right part makes a right text with it, and any right text that begins so has a right part

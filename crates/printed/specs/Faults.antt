@@ -2,7 +2,7 @@
 use Rattle.std.specs.Prelude.{◌≡◌, ℕ, ◌+◌, ◌%◌, ◌<◌, true, false, List, length, Some}
 use Rattle.store.specs.declared.content.Content.{Content}
 use Rattle.store.specs.Ranges.{fits_number, fits_stamp}
-use Rattle.printed.specs.declared.Place.{Place}
+use Rattle.printed.specs.declared.part.Part.{Part}
 use Rattle.printed.specs.declared.fault.FieldFault.{FieldFault}
 use Rattle.printed.specs.declared.fault.LineFault.{LineFault}
 use Rattle.printed.specs.declared.fault.LineFault.TheVariants.{Field, Blank, LineFeed, Number, Stamp}
@@ -37,9 +37,9 @@ abbrev pub line_and_column : StoreFault → ℕ × ℕ
 line_and_column Length = (0, 0)
 line_and_column (Line f) = (fault_line f, fault_column f)
 
--- a field at a place has not the shape P, from the fault's column on
-abbrev pub FieldWrong : (List ℕ → Type 0) → List ℕ → Place → FieldFault → Type 0
-FieldWrong P xs place f = (f.line ≡ place.line) × ((c : ℕ) × (f.column ≡ place.start + c) × WrongAt P xs c)
+-- a part of a line has not the shape P, from the fault's column on
+abbrev pub FieldWrong : (List ℕ → Type 0) → Part → FieldFault → Type 0
+FieldWrong P part f = (f.line ≡ part.line) × ((c : ℕ) × (f.column ≡ part.start + c) × WrongAt P part.bytes.now c)
 
 -- line l has not the shape of a line, from the fault's column on
 abbrev pub ShapeWrong : List ℕ → ℕ → LineFault → Type 0

@@ -6,7 +6,7 @@ use Rattle.printed.specs.Texts.{text_cells}
 
 -- the text that it was lent
 abbrev pub store_text : PrintedStore → List ℕ
-store_text s = s.text.bytes.now
+store_text s = s.bytes.now
 
 -- what the text shows
 abbrev pub store_cells : PrintedStore → Cells

@@ -5,17 +5,20 @@ ghost use Rattle.printed.specs.Texts.{Shown, text_cells};
 
 mod methods;
 
-// The text, 16 bytes to a line.
-#[derive(Drop)]
-struct Text<'a> {
-    bytes: &'a mut [u8],
-}
+use super::fault::StoreFault;
 
-// A text in which every line shows what its cell may hold.
+// A text, 16 bytes to a line, in which every line shows what its cell may hold.
 #[derive(Drop)]
 pub struct PrintedStore<'a> {
-    text: Text<'a>,
-    ghost long: { length text.bytes.now ≡ 576 },
-    ghost shown: { Shown text.bytes.now },
-    ghost sound: { Sound (text_cells text.bytes.now) },
+    bytes: &'a mut [u8],
+    ghost long: { length bytes.now ≡ 576 },
+    ghost shown: { Shown bytes.now },
+    ghost sound: { Sound (text_cells bytes.now) },
+}
+
+// A text that was refused: what is wrong with it, and the text as it was.
+#[derive(Drop)]
+pub struct Refused<'a> {
+    pub fault: StoreFault,
+    pub bytes: &'a mut [u8],
 }

@@ -1,11 +1,15 @@
 //! Printing a line, and the text of a store with nothing in it.
-ghost use Rattle.std.specs.Prelude.{◌≡◌, ◌+◌, ◌/◌, ◌<◌, ◌≤◌, ◌++◌, length, take, drop, Some};
+ghost use Rattle.std.specs.Prelude.{◌≡◌, ◌<◌, length, Some};
 ghost use Rattle.store.specs.Cells.{absent};
 ghost use Rattle.printed.specs.Fields.{figure, leading, justified};
 ghost use Rattle.printed.specs.Lines.{line};
 ghost use Rattle.printed.specs.Texts.{Printed, text_cells};
 
+use std::array;
 use store::content::Content;
+
+// The line of a cell that holds nothing.
+const BLANK: [u8; 16] = *b"               \n";
 
 // The byte for the last figure of a number, and a blank for 0.
 fn last_figure(m: u32) -> u8
@@ -14,25 +18,24 @@ fn last_figure(m: u32) -> u8
     if m == 0 { b' ' } else { b'0' + (m % 10) as u8 }
 }
 
-// Writes a number right-justified into the `width` bytes from `at` on, and blanks for 0.
-fn write_leading(bytes: &mut [u8], at: usize, width: usize, n: u32)
-    requires { at + width ≤ length bytes.old }
-    ensures { bytes.new ≡ take at bytes.old ++ (leading width n ++ drop (at + width) bytes.old) }
+// Writes a number right-justified, and blanks for 0.
+fn write_leading(columns: &mut [u8], n: u32)
+    ensures { columns.new ≡ leading (length columns.old) n }
 {
-    let mut m = n;
-    for j in (0..width).rev() {
-        bytes[at + j] = last_figure(m);
-        m /= 10;
+    if let Some((last, front)) = columns.split_last_mut() {
+        *last = last_figure(n);
+        write_leading(front, n / 10);
     }
 }
 
-// Writes a number right-justified into the `width` bytes from `at` on.
-fn write_number(bytes: &mut [u8], at: usize, width: usize, n: u32)
-    requires { (0 < width) × (at + width ≤ length bytes.old) }
-    ensures { bytes.new ≡ take at bytes.old ++ (justified width n ++ drop (at + width) bytes.old) }
+// Writes a number right-justified.
+fn write_number(columns: &mut [u8], n: u32)
+    requires { 0 < length columns.old }
+    ensures { columns.new ≡ justified (length columns.old) n }
 {
-    write_leading(bytes, at, width - 1, n / 10);
-    bytes[at + width - 1] = b'0' + (n % 10) as u8;
+    let (last, front) = columns.split_last_mut().unwrap();
+    *last = b'0' + (n % 10) as u8;
+    write_leading(front, n / 10);
 }
 
 // The line that shows a content.
@@ -40,8 +43,8 @@ fn print_content(content: Content) -> [u8; 16]
     ensures { result ≡ line (Some content) }
 {
     let mut out = [b' '; 16];
-    write_number(&mut out, 0, 8, content.number);
-    write_number(&mut out, 9, 6, content.stamp);
+    write_number(&mut out[0..8], content.number);
+    write_number(&mut out[9..15], content.stamp);
     out[15] = b'\n';
     out
 }
@@ -52,7 +55,7 @@ pub fn print_line(held: Option<Content>) -> [u8; 16]
 {
     match held {
         Some(content) => print_content(content),
-        None => *b"               \n",
+        None => BLANK,
     }
 }
 
@@ -61,11 +64,5 @@ pub fn blank_text() -> [u8; 576]
     ensures printed { Printed result }
     ensures absent { text_cells result ≡ absent }
 {
-    let line = print_line(None);
-    let mut text = [b' '; 576];
-    for k in 0..36 {
-        let start = 16 * k;
-        text[start..start + 16].copy_from_slice(&line);
-    }
-    text
+    array::from_fn(|i| BLANK[i % 16])
 }

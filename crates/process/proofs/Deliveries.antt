@@ -1,11 +1,11 @@
 -- What a delivered message leaves of the acknowledgers and of the kept estimates, and what an entry writes first.
-use Rattle.std.proofs.Common.{◌≡◌, ℕ, zero, suc, ◌-◌, Bool, true, false, cond, ◌&&◌, eqb, ◌⊎◌, List, [], ◌∷◌, ◌++◌, get_or, set, replicate, is_some, Some, None, Option, sym, refl, ap, ◌∙◌, subst, inl, inr}
-use Rattle.std.proofs.lemmas.List.{append_assoc, append-nil, get_or-set_other}
-use Rattle.std.proofs.lemmas.Bool.{and_parts, both_ways, cases_eq, cond_both, cond-true, cond-false, eqb-true, false≢true}
+use Rattle.std.proofs.Common.{◌≡◌, ℕ, zero, suc, ◌-◌, Bool, true, false, cond, ◌&&◌, eqb, ◌⊎◌, List, [], ◌∷◌, ◌++◌, get_or, set, replicate, is_some, Some, None, Option, sym, refl, ap, ◌∙◌, subst, inl, inr, arith}
+use Rattle.std.proofs.lemmas.List.{append_assoc, append-nil, get_or-set_other, set-get_or}
+use Rattle.std.proofs.lemmas.Bool.Decides.{nat_tests}
+use Rattle.std.proofs.lemmas.Bool.{and_parts, both_ways, cases_eq, cond_both, cond-true, eqb-true}
 use Rattle.store.specs.declared.content.Content.{Content}
 use Rattle.quorum.specs.Laws.{has}
 use Rattle.tray.specs.declared.kinds.Estimate.{Estimate}
-use Rattle.process.specs.declared.message.Kind.{Kind}
 use Rattle.process.specs.declared.message.Message.{Message}
 use Rattle.process.specs.declared.memory.Action.{Action}
 use Rattle.process.specs.declared.memory.Action.TheVariants.{Write, Send}
@@ -16,6 +16,7 @@ use Rattle.process.specs.Meetings.{accept, deliver, hear, heed, join, keep, lear
 use Rattle.process.specs.Phases.{is_ack, is_confirming, is_decide, is_done, is_estimate, is_gathering, is_new_estimate, is_waiting}
 use Rattle.process.specs.Rounds.{Step, ack, addressed, begin, best_kept, chosen, choose, conclude, confirm, confirmed, coordinator, decide, enter, estimate, follow, gather, gathered, in_phase, lead, new_estimate, new_round, only, propound, remember, send, senders, settle, still, to_all, write}
 use Rattle.process.proofs.Sends.{to_all_memory}
+use Rattle.store.specs.declared.content.CellName.TheVariants as CellName
 
 -- ---- sets of processes
 none_in : (m k : ℕ) → get_or (replicate m false) k false ≡ false
@@ -31,27 +32,22 @@ only_in : (p k : ℕ) → has (only p) k ≡ true → k ≡ p - 1
 only_in p k h = elim (joined_by (replicate 9 false) (p - 1) k h) [ inl e ↦ absurd (both_ways (has (replicate 9 false) k) (none_in 9 k) e) | inr e ↦ e ]
 
 joined_again : (xs : List Bool) (i : ℕ) → has xs i ≡ true → set xs i true ≡ xs
-joined_again [] i h = refl
-joined_again (x ∷ xs) zero h = ap (λ (b : Bool). b ∷ xs) (sym h)
-joined_again (x ∷ xs) (suc i) h = ap (λ (l : List Bool). x ∷ l) (joined_again xs i h)
+joined_again xs i h = ap (set xs i) (sym h) ∙ set-get_or xs i false
 
 module _ (n p : ℕ) (enough : List Bool → Bool) where
   -- ---- settling
   propound_kept : (e : ℕ) (s : Step) → (propound n p e s).memory.kept ≡ s.memory.kept
-  propound_kept e s = ap (λ (y : Memory). y.kept) (to_all_memory n (new_estimate p s.memory.round e) (write 3 e s.memory.round (remember (choose p e) s)))
+  propound_kept e s = ap (λ (y : Memory). y.kept) (to_all_memory n (new_estimate p s.memory.round e) (write CellName.Pair e s.memory.round (remember (choose p e) s)))
 
   propound_only : (e : ℕ) (s : Step) → (propound n p e s).memory.acknowledgers ≡ only p
-  propound_only e s = ap (λ (y : Memory). y.acknowledgers) (to_all_memory n (new_estimate p s.memory.round e) (write 3 e s.memory.round (remember (choose p e) s)))
+  propound_only e s = ap (λ (y : Memory). y.acknowledgers) (to_all_memory n (new_estimate p s.memory.round e) (write CellName.Pair e s.memory.round (remember (choose p e) s)))
 
   chosen_kept : (o : Option Estimate) (s : Step) → (chosen n p o s).memory.kept ≡ s.memory.kept
   chosen_kept None s = refl
   chosen_kept (Some b) s = propound_kept b.reading s
 
   gathered_kept : (s : Step) → (gathered n p enough s).memory.kept ≡ s.memory.kept
-  gathered_kept s =
-      cond_both (is_gathering s.memory.phase) (cond (enough (senders s.memory.kept)) (chosen n p (best_kept s.memory.kept) s) s) s (λ (u : Step). u.memory.kept ≡ s.memory.kept)
-      (λ _. cond_both (enough (senders s.memory.kept)) (chosen n p (best_kept s.memory.kept) s) s (λ (u : Step). u.memory.kept ≡ s.memory.kept) (λ _. chosen_kept (best_kept s.memory.kept) s) (λ _. refl))
-      (λ _. refl)
+  gathered_kept s = grind (arith, chosen_kept (best_kept s.memory.kept) s)
 
   concluded : (s : Step) → ((conclude n p s).memory.kept ≡ s.memory.kept) × ((conclude n p s).memory.acknowledgers ≡ s.memory.acknowledgers)
   concluded s =
@@ -59,11 +55,7 @@ module _ (n p : ℕ) (enough : List Bool → Bool) where
       (ap (λ (y : Memory). y.kept) same, ap (λ (y : Memory). y.acknowledgers) same)
 
   confirmed_keeps : (s : Step) → ((confirmed n p enough s).memory.kept ≡ s.memory.kept) × ((confirmed n p enough s).memory.acknowledgers ≡ s.memory.acknowledgers)
-  confirmed_keeps s =
-      let Same : Step → Type 0 = λ u. (u.memory.kept ≡ s.memory.kept) × (u.memory.acknowledgers ≡ s.memory.acknowledgers) in
-      cond_both (is_confirming s.memory.phase) (cond (enough s.memory.acknowledgers) (conclude n p s) s) s Same
-      (λ _. cond_both (enough s.memory.acknowledgers) (conclude n p s) s Same (λ _. concluded s) (λ _. (refl, refl)))
-      (λ _. (refl, refl))
+  confirmed_keeps s = let (kept, acks) = concluded s in (grind arith, grind arith)
 
   settle_kept : (s : Step) → (settle n p enough s).memory.kept ≡ s.memory.kept
   unfolding settle
@@ -78,10 +70,9 @@ module _ (n p : ℕ) (enough : List Bool → Bool) where
   chosen_gained (Some b) s g k h = inr (g, only_in p k (sym (ap (λ (xs : List Bool). has xs k) (propound_only b.reading s)) ∙ h))
 
   gathered_gained : (s : Step) → Gained s (gathered n p enough s)
-  gathered_gained s =
-      cond_both (is_gathering s.memory.phase) (cond (enough (senders s.memory.kept)) (chosen n p (best_kept s.memory.kept) s) s) s (Gained s)
-      (λ g. cond_both (enough (senders s.memory.kept)) (chosen n p (best_kept s.memory.kept) s) s (Gained s) (λ _. chosen_gained (best_kept s.memory.kept) s g) (λ _ k h. inl h))
-      (λ _ k h. inl h)
+  gathered_gained s k h =
+      let gained : is_gathering s.memory.phase ≡ true → Gained s (chosen n p (best_kept s.memory.kept) s) = chosen_gained (best_kept s.memory.kept) s in
+      grind arith
 
   settle_gained : (s : Step) → Gained s (settle n p enough s)
   unfolding settle
@@ -89,43 +80,12 @@ module _ (n p : ℕ) (enough : List Bool → Bool) where
 
   settle_acks : (s : Step) → is_gathering s.memory.phase ≡ false → (settle n p enough s).memory.acknowledgers ≡ s.memory.acknowledgers
   unfolding settle
-  settle_acks s g =
-      (confirmed_keeps (gathered n p enough s)).1
-      ∙ ap (λ (u : Step). u.memory.acknowledgers) (cond-false (is_gathering s.memory.phase) (cond (enough (senders s.memory.kept)) (chosen n p (best_kept s.memory.kept) s) s) s g)
-
-  not_gathering : (f : Phase) → is_confirming f ≡ true → is_gathering f ≡ false
-  not_gathering Phase.Idle c = refl
-  not_gathering Phase.Waiting c = refl
-  not_gathering Phase.Acked c = refl
-  not_gathering Phase.Gathering c = absurd (false≢true c)
-  not_gathering Phase.Confirming c = refl
-  not_gathering Phase.Done c = refl
-
-  no_estimate : (k : Kind) → is_ack k ≡ true → is_estimate k ≡ false
-  no_estimate Kind.NewRound i = refl
-  no_estimate Kind.Estimate i = absurd (false≢true i)
-  no_estimate Kind.NewEstimate i = refl
-  no_estimate Kind.Ack i = refl
-  no_estimate Kind.Decide i = refl
-
-  no_new_estimate : (k : Kind) → is_ack k ≡ true → is_new_estimate k ≡ false
-  no_new_estimate Kind.NewRound i = refl
-  no_new_estimate Kind.Estimate i = refl
-  no_new_estimate Kind.NewEstimate i = absurd (false≢true i)
-  no_new_estimate Kind.Ack i = refl
-  no_new_estimate Kind.Decide i = refl
-
-  no_decide : (k : Kind) → is_ack k ≡ true → is_decide k ≡ false
-  no_decide Kind.NewRound i = refl
-  no_decide Kind.Estimate i = refl
-  no_decide Kind.NewEstimate i = refl
-  no_decide Kind.Ack i = refl
-  no_decide Kind.Decide i = absurd (false≢true i)
+  settle_acks s g = (confirmed_keeps (gathered n p enough s)).1 ∙ grind arith
 
   -- ---- a delivery
   reply_memory : (d : Option Content) (m : Message) (y : Memory) → (reply p d m (still y)).memory ≡ y
   reply_memory None m y = refl
-  reply_memory (Some d) m y = cond_both (is_decide m.kind) (still y) _ (λ (u : Step). u.memory ≡ y) (λ _. refl) (λ _. refl)
+  reply_memory (Some d) m y = grind arith
 
   module _ (m : Message) (y : Memory) where
     -- what the ways of a delivery leave, if settling after a kept estimate, settling after an ACK of the round and taking over the reading leave it
@@ -151,7 +111,7 @@ module _ (n p : ℕ) (enough : List Bool → Bool) where
     deliver_gains d =
         delivered d (Gains p m y) (λ k h. inl h) (λ k h. inl h) (λ k h. inl h)
         (λ g e k h. elim (settle_gained (remember (keep m) (still (hear m y))) k h) [ inl i ↦ inl i | inr i ↦ inr (inr i) ])
-        (λ c a r k h. elim (joined_by y.acknowledgers (m.sender - 1) k (sym (ap (λ (xs : List Bool). has xs k) (settle_acks (remember (join m) (still (hear m y))) (not_gathering y.phase c))) ∙ h)) [
+        (λ c a r k h. elim (joined_by y.acknowledgers (m.sender - 1) k (sym (ap (λ (xs : List Bool). has xs k) (settle_acks (remember (join m) (still (hear m y))) (grind arith))) ∙ h)) [
           | inl i ↦ inl i
           | inr i ↦ inr (inl (a, r, i))
         ])
@@ -161,50 +121,25 @@ module _ (n p : ℕ) (enough : List Bool → Bool) where
     again_same : (d : Option Content) → is_ack m.kind ≡ true → has y.acknowledgers (m.sender - 1) ≡ true → (deliver n p enough d m (still y)).memory.acknowledgers ≡ y.acknowledgers
     again_same d a there =
         delivered d (λ z. z.acknowledgers ≡ y.acknowledgers) refl refl refl
-        (λ g e. absurd (both_ways (is_estimate m.kind) (no_estimate m.kind a) e))
-        (λ c i r. settle_acks (remember (join m) (still (hear m y))) (not_gathering y.phase c) ∙ joined_again y.acknowledgers (m.sender - 1) there) refl
+        (λ g e. absurd (grind arith))
+        (λ c i r. settle_acks (remember (join m) (still (hear m y))) (grind arith) ∙ joined_again y.acknowledgers (m.sender - 1) there) refl
 
     -- joining again changes no memory
     join_none : has y.acknowledgers (m.sender - 1) ≡ true → remember (join m) (still (hear m y)) ≡ still (hear m y)
     join_none there = ap (λ (xs : List Bool). still (with_acks xs (hear m y))) (joined_again y.acknowledgers (m.sender - 1) there)
       where
         with_acks : List Bool → Memory → Memory
-        with_acks xs z = record {
-          phase = z.phase;
-          round = z.round;
-          reading = z.reading;
-          stamp = z.stamp;
-          heard = z.heard;
-          epoch = z.epoch;
-          kept = z.kept;
-          acknowledgers = xs;
-          last = z.last;
-        }
+        with_acks xs z = record z { acknowledgers = xs }
 
     -- settling while confirming with too few acknowledgers does nothing
     settle_none : is_confirming y.phase ≡ true → enough y.acknowledgers ≡ false → settle n p enough (still (hear m y)) ≡ still (hear m y)
     unfolding settle
-    settle_none c few =
-        ap (confirmed n p enough) (cond-false (is_gathering y.phase) _ (still (hear m y)) (not_gathering y.phase c))
-        ∙ (cond-true (is_confirming y.phase) _ (still (hear m y)) c ∙ cond-false (enough y.acknowledgers) _ (still (hear m y)) few)
+    settle_none c few = grind arith
 
     again_nothing : (d : Option Content) → is_ack m.kind ≡ true → has y.acknowledgers (m.sender - 1) ≡ true → enough y.acknowledgers ≡ false → is_done y.phase ≡ false
         → deliver n p enough d m (still y) ≡ still (hear m y)
     unfolding deliver
-    again_nothing d a there few busy =
-        let P : Step → Type 0 = λ u. u ≡ still (hear m y) in
-        cond-false (is_done y.phase) _ _ busy
-        ∙ (cond-false (is_decide m.kind) _ _ (no_decide m.kind a)
-        ∙ cond_both (eqb m.round y.round) (meet n p enough m (remember (hear m) (still y))) (remember (hear m) (still y)) P
-        (λ _. cond_both (is_gathering y.phase && is_estimate m.kind) (settle n p enough (remember (keep m) (still (hear m y)))) _ P
-        (λ i. absurd (both_ways (is_estimate m.kind) (no_estimate m.kind a) (and_parts (is_gathering y.phase) (is_estimate m.kind) i).1))
-        (λ _. cond_both (is_confirming y.phase && is_ack m.kind) (settle n p enough (remember (join m) (still (hear m y)))) _ P
-        (λ i. ap (settle n p enough) (join_none there) ∙ settle_none (and_parts (is_confirming y.phase) (is_ack m.kind) i).0 few)
-        (λ _. cond_both (is_waiting y.phase && is_new_estimate m.kind && eqb m.sender (coordinator n y.round)) (accept p m (still (hear m y))) (still (hear m y)) P
-        (λ i. absurd (both_ways (is_new_estimate m.kind) (no_new_estimate m.kind a)
-        (and_parts (is_waiting y.phase) (is_new_estimate m.kind) (and_parts (is_waiting y.phase && is_new_estimate m.kind) (eqb m.sender (coordinator n y.round)) i).0).1))
-        (λ _. refl))))
-        (λ _. refl))
+    again_nothing d a there few busy = grind (arith, nat_tests, join_none there, settle_none)
 
     pub deliver_again : (d : Option Content) → RepeatedAck enough m y (deliver n p enough d m (still y))
     deliver_again d = record { same = again_same d; nothing = again_nothing d }
@@ -233,8 +168,8 @@ module _ (n p : ℕ) (enough : List Bool → Bool) where
 
   adds_propound : (e : ℕ) (s : Step) → Adds s (propound n p e s)
   adds_propound e s =
-      let u = write 3 e s.memory.round (remember (choose p e) s) in
-      adds_then s u (propound n p e s) (Write 3 (record { number = e; stamp = s.memory.round }) ∷ [], refl) (adds_all n (new_estimate p s.memory.round e) u)
+      let u = write CellName.Pair e s.memory.round (remember (choose p e) s) in
+      adds_then s u (propound n p e s) (Write CellName.Pair (record { number = e; stamp = s.memory.round }) ∷ [], refl) (adds_all n (new_estimate p s.memory.round e) u)
 
   adds_chosen : (o : Option Estimate) (s : Step) → Adds s (chosen n p o s)
   adds_chosen None s = adds_none s
@@ -249,7 +184,7 @@ module _ (n p : ℕ) (enough : List Bool → Bool) where
   adds_conclude : (s : Step) → Adds s (conclude n p s)
   adds_conclude s =
       let u = to_all n (decide p s.memory.reading) s in
-      adds_then s u (conclude n p s) (adds_all n (decide p s.memory.reading) s) (Write 4 (record { number = s.memory.reading; stamp = 0 }) ∷ [], refl)
+      adds_then s u (conclude n p s) (adds_all n (decide p s.memory.reading) s) (Write CellName.Decision (record { number = s.memory.reading; stamp = 0 }) ∷ [], refl)
 
   adds_confirmed : (s : Step) → Adds s (confirmed n p enough s)
   adds_confirmed s =
@@ -264,9 +199,9 @@ module _ (n p : ℕ) (enough : List Bool → Bool) where
   unfolding enter
   enter_first r s u is = subst (RoundFirst r s) (sym is) (first (begun_adds))
     where
-      begun_adds : Adds (write 2 r 0 (remember (begin r) s)) (enter n p enough r s)
+      begun_adds : Adds (write CellName.Round r 0 (remember (begin r) s)) (enter n p enough r s)
       begun_adds =
-          let b = write 2 r 0 (remember (begin r) s) in
+          let b = write CellName.Round r 0 (remember (begin r) s) in
           let c = coordinator n r in
           cond_both (eqb p c) (settle n p enough (lead n p r b)) (follow p c r b) (Adds b)
           (λ _. adds_then b (lead n p r b) (settle n p enough (lead n p r b))
@@ -275,5 +210,5 @@ module _ (n p : ℕ) (enough : List Bool → Bool) where
           (λ _. cond_both (eqb b.memory.stamp r) (remember (in_phase Phase.Acked) (send (addressed (ack p r) c) b)) (remember (in_phase Phase.Waiting) (send (addressed (estimate p r b.memory.reading b.memory.stamp) c) b)) (Adds b)
           (λ _. (Send (addressed (ack p r) c) ∷ [], refl)) (λ _. (Send (addressed (estimate p r b.memory.reading b.memory.stamp) c) ∷ [], refl)))
 
-      first : Adds (write 2 r 0 (remember (begin r) s)) (enter n p enough r s) → RoundFirst r s (enter n p enough r s)
-      first (more, e) = (more, e ∙ append_assoc s.acts (Write 2 (record { number = r; stamp = 0 }) ∷ []) more)
+      first : Adds (write CellName.Round r 0 (remember (begin r) s)) (enter n p enough r s) → RoundFirst r s (enter n p enough r s)
+      first (more, e) = (more, e ∙ append_assoc s.acts (Write CellName.Round (record { number = r; stamp = 0 }) ∷ []) more)

@@ -1,14 +1,14 @@
 -- Every step is lawful: it is short, writes a pair before it tells of it, and stays in range.
-use Rattle.std.proofs.Common.{◌≡◌, ℕ, zero, suc, ◌+◌, ◌-◌, ◌<◌, ◌≤◌, Bool, true, false, cond, not, ◌&&◌, ◌||◌, eqb, ltb, leb, List, [], ◌∷◌, ◌++◌, length, get_or, set, replicate, is_some, Some, None, Ok, Err, Option, Result, sym, refl, ap, ◌∙◌, subst, inl, inr, mod-lt, arith}
+use Rattle.std.proofs.Common.{◌≡◌, ℕ, zero, suc, ◌+◌, ◌-◌, ◌<◌, ◌≤◌, Bool, true, false, cond, not, ◌&&◌, ◌||◌, eqb, leb, List, [], ◌∷◌, ◌++◌, length, get_or, set, replicate, is_some, Some, None, Ok, Err, Option, Result, sym, refl, ap, ◌∙◌, subst, inl, inr, mod-lt, arith}
 use Rattle.std.specs.Option.{option_to_list}
-use Rattle.std.specs.List.{flat_map, AllByRecursion as All}
+use Rattle.std.specs.List.{flat_map, AllByRecursion}
 use Rattle.std.proofs.ByRecursion.{All-set, All-push}
 use Rattle.std.proofs.lemmas.List.{length_push}
-use Rattle.std.proofs.lemmas.Bool.{and_from, and_parts, both_ways, cases_eq, cond_both, cond-true, eq-eqb, eqb-true, le-leb, leb-true, ltb-true, ne_eqb, not-true, true≢false, false≢true}
+use Rattle.std.proofs.lemmas.Bool.{and_from, and_parts, both_ways, cases_eq, cond_both, eqb-true, false≢true}
 use Rattle.std.proofs.lemmas.Bool.Decides.{nat_tests}
 use Rattle.store.specs.declared.content.Content.{Content}
 use Rattle.store.specs.Cells.{sound}
-use Rattle.store.specs.Ranges.{fits, fits_number, fits_stamp, is_cell}
+use Rattle.store.specs.Ranges.{fits}
 use Rattle.tray.proofs.Bests.{best_in}
 use Rattle.tray.specs.Kinds.{prefers_estimate}
 use Rattle.tray.specs.declared.kinds.Estimate.{Estimate}
@@ -23,23 +23,25 @@ use Rattle.process.specs.declared.turn.NoRound.{NoRound}
 use Rattle.process.specs.Laws.{tells_of, is_late, pairs_first, Lawful, LookLawful}
 use Rattle.process.specs.Looks.{epoch_of, epochs_fit, go_on, Least, look, may_enter, must_leave, next_round, note, trusts_some}
 use Rattle.process.specs.Meetings.{accept, adopt, again, deliver, hear, heed, join, keep, learn, meet, post, reply, resend}
-use Rattle.process.specs.Messages.{between, fields, is_reading, is_round, well_formed}
+use Rattle.process.specs.Messages.{fields, is_reading, well_formed}
 use Rattle.process.specs.Phases.{is_ack, is_active, is_confirming, is_decide, is_done, is_estimate, is_gathering, is_new_estimate, is_waiting}
 use Rattle.process.specs.Ranges.{act_fits, any_there, estimate_fits, every, last_fits, memory_fits, round_fits}
 use Rattle.process.specs.Rounds.{Step, ack, addressed, begin, best_kept, blank, chosen, choose, conclude, confirm, confirmed, coordinator, decide, enter, estimate, follow, gather, gathered, hold, in_phase, lead, new_estimate, new_round, noted, number_or, propose, propound, recover, remember, resumed, send, senders, settle, stamp_or, still, to_all, write}
 use Rattle.process.proofs.Looks.{least_next}
 use Rattle.process.proofs.Stages.{gathering_active, confirming_active, waiting_active}
+use Rattle.store.specs.declared.content.CellName.{CellName}
+use Rattle.store.specs.CellNames.{cell_number}
 
 -- ---- tests over lists
-pub all_of : {A : Type 0} (test : A → Bool) (xs : List A) → every test xs ≡ true → All (λ x. test x ≡ true) xs
+pub all_of : {A : Type 0} (test : A → Bool) (xs : List A) → every test xs ≡ true → AllByRecursion (λ x. test x ≡ true) xs
 all_of test [] e = tt
 all_of test (x ∷ xs) e = let (here, rest) = and_parts (test x) (every test xs) e in (here, all_of test xs rest)
 
-pub every_of : {A : Type 0} (test : A → Bool) (xs : List A) → All (λ x. test x ≡ true) xs → every test xs ≡ true
+pub every_of : {A : Type 0} (test : A → Bool) (xs : List A) → AllByRecursion (λ x. test x ≡ true) xs → every test xs ≡ true
 every_of test [] h = refl
 every_of test (x ∷ xs) h = and_from (test x) (every test xs) h.0 (every_of test xs h.1)
 
-all_replicate : {A : Type 0} (P : A → Type 0) (k : ℕ) (x : A) → P x → All P (replicate k x)
+all_replicate : {A : Type 0} (P : A → Type 0) (k : ℕ) (x : A) → P x → AllByRecursion P (replicate k x)
 all_replicate P zero x h = tt
 all_replicate P (suc k) x h = (h, all_replicate P k x h)
 
@@ -51,38 +53,38 @@ silent (Send m) = not (is_new_estimate m.kind || is_ack m.kind)
 -- the second action may follow the first
 apart : Action → Action → Bool
 apart (Write c v) a = true
-apart (Send m) (Write c v) = not (eqb c 3 && tells_of v m)
+apart (Send m) (Write c v) = not (eqb (cell_number c) 3 && tells_of v m)
 apart (Send m) (Send x) = true
 
 late_push : (m : Message) (acts : List Action) (a : Action) → is_late m acts ≡ true → apart (Send m) a ≡ true → is_late m (acts ++ a ∷ []) ≡ true
 unfolding apart
-late_push m [] (Write c v) h k = and_from _ true k refl
+late_push m [] (Write c v) h k = grind arith
 late_push m [] (Send x) h k = refl
 late_push m (Write c v ∷ acts) a h k =
-    let (here, rest) = and_parts (not (eqb c 3 && tells_of v m)) (is_late m acts) h in and_from _ _ here (late_push m acts a rest k)
+    let rest = late_push m acts a (grind arith) k in grind arith
 late_push m (Send x ∷ acts) a h k = late_push m acts a h k
 
-pairs_push : (acts : List Action) (a : Action) → pairs_first acts ≡ true → All (λ b. apart b a ≡ true) acts → pairs_first (acts ++ a ∷ []) ≡ true
+pairs_push : (acts : List Action) (a : Action) → pairs_first acts ≡ true → AllByRecursion (λ b. apart b a ≡ true) acts → pairs_first (acts ++ a ∷ []) ≡ true
 unfolding apart
 pairs_push [] (Write c v) h k = refl
 pairs_push [] (Send m) h k = refl
 pairs_push (Write c v ∷ acts) a h k = pairs_push acts a h k.1
 pairs_push (Send m ∷ acts) a h k =
-    let (here, rest) = and_parts (is_late m acts) (pairs_first acts) h in and_from _ _ (late_push m acts a here k.0) (pairs_push acts a rest k.1)
+    let late = late_push m acts a (grind arith) k.0 in let rest = pairs_push acts a (grind arith) k.1 in grind arith
 
-apart_send : (m : Message) (acts : List Action) → All (λ b. apart b (Send m) ≡ true) acts
+apart_send : (m : Message) (acts : List Action) → AllByRecursion (λ b. apart b (Send m) ≡ true) acts
 unfolding apart
 apart_send m [] = tt
 apart_send m (Write c v ∷ acts) = (refl, apart_send m acts)
 apart_send m (Send x ∷ acts) = (refl, apart_send m acts)
 
-apart_write : (c : ℕ) (v : Content) → eqb c 3 ≡ false → (acts : List Action) → All (λ b. apart b (Write c v) ≡ true) acts
+apart_write : (c : CellName) (v : Content) → eqb (cell_number c) 3 ≡ false → (acts : List Action) → AllByRecursion (λ b. apart b (Write c v) ≡ true) acts
 unfolding apart
 apart_write c v e [] = tt
 apart_write c v e (Write d w ∷ acts) = (refl, apart_write c v e acts)
 apart_write c v e (Send x ∷ acts) = (rw e refl, apart_write c v e acts)
 
-apart_pair : (v : Content) (acts : List Action) → All (λ a. silent a ≡ true) acts → All (λ b. apart b (Write 3 v) ≡ true) acts
+apart_pair : (v : Content) (acts : List Action) → AllByRecursion (λ a. silent a ≡ true) acts → AllByRecursion (λ b. apart b (Write CellName.Pair v) ≡ true) acts
 unfolding silent apart
 apart_pair v [] h = tt
 apart_pair v (Write d w ∷ acts) h = (refl, apart_pair v acts h.1)
@@ -99,122 +101,74 @@ Reading v = (1 ≤ v) × (v ≤ 99999999)
 abbrev Round : ℕ → Type 0
 Round r = (1 ≤ r) × (r ≤ 999999)
 
-of_within : (low high v : ℕ) → leb low v && leb v high ≡ true → (low ≤ v) × (v ≤ high)
-of_within low high v e = let (a, b) = and_parts (leb low v) (leb v high) e in (leb-true low v a, leb-true v high b)
-
-to_within : (low high v : ℕ) → low ≤ v → v ≤ high → leb low v && leb v high ≡ true
-to_within low high v a b = and_from (leb low v) (leb v high) (le-leb low v a) (le-leb v high b)
-
-to_reading : (v : ℕ) → Reading v → is_reading v ≡ true
-to_reading v (a, b) = to_within 1 99999999 v a b
-
-to_round : (r : ℕ) → Round r → is_round r ≡ true
-to_round r (a, b) = to_within 1 999999 r a b
-
 -- a memory in a round
-record Sane (y : Memory) : Type 0 where
-  round : Round y.round
-  reading : Reading y.reading
-  stamp : y.stamp ≤ 999999
-  kept : All (λ o. any_there estimate_fits o ≡ true) y.kept
+record InRound (r e t : ℕ) (ks : List (Option Estimate)) : Type 0 where
+  round : Round r
+  reading : Reading e
+  stamp : t ≤ 999999
+  kept : AllByRecursion (λ o. any_there estimate_fits o ≡ true) ks
+
+abbrev Sane : Memory → Type 0
+Sane y = InRound y.round y.reading y.stamp y.kept
 
 of_round_fits : (y : Memory) → round_fits y ≡ true → Sane y
-of_round_fits y e =
-    let (three, kept) = and_parts (is_round y.round && is_reading y.reading && leb y.stamp 999999) (every (any_there estimate_fits) y.kept) e in
-    let (two, stamp) = and_parts (is_round y.round && is_reading y.reading) (leb y.stamp 999999) three in
-    let (round, reading) = and_parts (is_round y.round) (is_reading y.reading) two in
-    record {
-      round = of_within 1 999999 y.round round;
-      reading = of_within 1 99999999 y.reading reading;
-      stamp = leb-true y.stamp 999999 stamp;
-      kept = all_of (any_there estimate_fits) y.kept kept;
-    }
+of_round_fits y e = record {
+  round = grind (arith, nat_tests);
+  reading = grind (arith, nat_tests);
+  stamp = grind (arith, nat_tests);
+  kept = all_of (any_there estimate_fits) y.kept (grind (arith, nat_tests));
+}
 
 to_round_fits : (y : Memory) → Sane y → round_fits y ≡ true
-to_round_fits y s =
-    and_from (is_round y.round && is_reading y.reading && leb y.stamp 999999) (every (any_there estimate_fits) y.kept)
-    (and_from (is_round y.round && is_reading y.reading) (leb y.stamp 999999)
-    (and_from (is_round y.round) (is_reading y.reading) (to_round y.round s.round) (to_reading y.reading s.reading))
-    (le-leb y.stamp 999999 s.stamp))
-    (every_of (any_there estimate_fits) y.kept s.kept)
+to_round_fits y s = let kept = every_of (any_there estimate_fits) y.kept s.kept in grind (arith, nat_tests)
 
 -- ---- the best of estimates is one of them
-kept_list : {A : Type 0} (test : A → Bool) (os : List (Option A)) → All (λ o. any_there test o ≡ true) os → All (λ x. test x ≡ true) (flat_map option_to_list os)
+kept_list : {A : Type 0} (test : A → Bool) (os : List (Option A)) → AllByRecursion (λ o. any_there test o ≡ true) os → AllByRecursion (λ x. test x ≡ true) (flat_map option_to_list os)
 kept_list test [] h = tt
 kept_list test (None ∷ os) h = kept_list test os h.1
 kept_list test (Some x ∷ os) h = (h.0, kept_list test os h.1)
 
 best_reading : (y : Memory) (b : Estimate) → Sane y → best_kept y.kept ≡ Some b → Reading b.reading
 best_reading y b s e =
-    of_within 1 99999999 b.reading
-    (and_parts (is_reading b.reading) (leb b.stamp 999999)
-    (best_in prefers_estimate (λ x. estimate_fits x ≡ true) (flat_map option_to_list y.kept) b (kept_list estimate_fits y.kept s.kept) e)).0
-
--- ---- phases
-not_both : (f : Phase) → is_done f ≡ true → is_gathering f ≡ true → ⊥
-not_both Phase.Idle d g = false≢true d
-not_both Phase.Waiting d g = false≢true d
-not_both Phase.Acked d g = false≢true d
-not_both Phase.Gathering d g = false≢true d
-not_both Phase.Confirming d g = false≢true d
-not_both Phase.Done d g = false≢true g
+    let fits = best_in prefers_estimate (λ x. estimate_fits x ≡ true) (flat_map option_to_list y.kept) b (kept_list estimate_fits y.kept s.kept) e in
+    grind (arith, nat_tests)
 
 -- ---- what the fields of a message say
 kind_round : (k : Kind) (r v t : ℕ) → fields k r v t ≡ true → is_decide k ≡ false → r ≤ 999999
-kind_round Kind.NewRound r v t e o = (of_within 1 999999 r (and_parts (is_round r) (eqb v 0) (and_parts (is_round r && eqb v 0) (eqb t 0) e).0).0).1
-kind_round Kind.Estimate r v t e o = (of_within 1 999999 r (and_parts (is_round r) (is_reading v) (and_parts (is_round r && is_reading v) (leb t 999999) e).0).0).1
-kind_round Kind.NewEstimate r v t e o = (of_within 1 999999 r (and_parts (is_round r) (is_reading v) (and_parts (is_round r && is_reading v) (eqb t 0) e).0).0).1
-kind_round Kind.Ack r v t e o = (of_within 1 999999 r (and_parts (is_round r) (eqb v 0) (and_parts (is_round r && eqb v 0) (eqb t 0) e).0).0).1
-kind_round Kind.Decide r v t e o = absurd (true≢false o)
+kind_round k r v t e o = grind (arith, nat_tests)
 
 kind_estimate : (k : Kind) (r v t : ℕ) → fields k r v t ≡ true → is_estimate k ≡ true → (is_reading v && leb t 999999) ≡ true
-kind_estimate Kind.NewRound r v t e o = absurd (false≢true o)
-kind_estimate Kind.Estimate r v t e o =
-    let (two, stamp) = and_parts (is_round r && is_reading v) (leb t 999999) e in and_from (is_reading v) (leb t 999999) (and_parts (is_round r) (is_reading v) two).1 stamp
-kind_estimate Kind.NewEstimate r v t e o = absurd (false≢true o)
-kind_estimate Kind.Ack r v t e o = absurd (false≢true o)
-kind_estimate Kind.Decide r v t e o = absurd (false≢true o)
+kind_estimate k r v t e o = grind (arith, nat_tests)
 
 kind_new_estimate : (k : Kind) (r v t : ℕ) → fields k r v t ≡ true → is_new_estimate k ≡ true → Reading v
-kind_new_estimate Kind.NewRound r v t e o = absurd (false≢true o)
-kind_new_estimate Kind.Estimate r v t e o = absurd (false≢true o)
-kind_new_estimate Kind.NewEstimate r v t e o =
-    of_within 1 99999999 v (and_parts (is_round r) (is_reading v) (and_parts (is_round r && is_reading v) (eqb t 0) e).0).1
-kind_new_estimate Kind.Ack r v t e o = absurd (false≢true o)
-kind_new_estimate Kind.Decide r v t e o = absurd (false≢true o)
+kind_new_estimate k r v t e o = grind (arith, nat_tests)
 
 kind_decide : (k : Kind) (r v t : ℕ) → fields k r v t ≡ true → is_decide k ≡ true → Reading v
-kind_decide Kind.NewRound r v t e o = absurd (false≢true o)
-kind_decide Kind.Estimate r v t e o = absurd (false≢true o)
-kind_decide Kind.NewEstimate r v t e o = absurd (false≢true o)
-kind_decide Kind.Ack r v t e o = absurd (false≢true o)
-kind_decide Kind.Decide r v t e o = of_within 1 99999999 v (and_parts (eqb r 0) (is_reading v) (and_parts (eqb r 0 && is_reading v) (eqb t 0) e).0).1
+kind_decide k r v t e o = grind (arith, nat_tests)
 
 -- ---- what a cell in range says
 round_from : (r : Option Content) → sound 2 r ≡ true → Round (number_or r 1)
 round_from None e = (omega arith, omega arith)
-round_from (Some x) e = of_within 1 999999 x.number (and_parts (fits_number 2 x.number) (fits_stamp 2 x.stamp) e).0
+round_from (Some x) e = grind (arith, nat_tests)
 
 reading_from : (w : Option Content) (v : Content) → sound 1 (Some v) ≡ true → sound 3 w ≡ true → Reading (number_or w v.number)
-reading_from None v e f = of_within 1 99999999 v.number (and_parts (fits_number 1 v.number) (fits_stamp 1 v.stamp) e).0
-reading_from (Some x) v e f = of_within 1 99999999 x.number (and_parts (fits_number 3 x.number) (fits_stamp 3 x.stamp) f).0
+reading_from None v e f = grind (arith, nat_tests)
+reading_from (Some x) v e f = grind (arith, nat_tests)
 
 stamp_from : (w : Option Content) → sound 3 w ≡ true → stamp_or w 0 ≤ 999999
 stamp_from None f = omega arith
-stamp_from (Some x) f = leb-true x.stamp 999999 (and_parts (fits_number 3 x.number) (fits_stamp 3 x.stamp) f).1
+stamp_from (Some x) f = grind (arith, nat_tests)
 
 epoch_fits : (list : List (Option ℕ)) (i : ℕ) → epochs_fit list ≡ true → any_there (λ k. leb k 999999) (get_or list i None) ≡ true
 epoch_fits [] i e = refl
-epoch_fits (None ∷ es) zero e = refl
-epoch_fits (None ∷ es) (suc i) e = epoch_fits es i e
-epoch_fits (Some k ∷ es) zero e = (and_parts (leb k 999999) (epochs_fit es) e).0
-epoch_fits (Some k ∷ es) (suc i) e = epoch_fits es i (and_parts (leb k 999999) (epochs_fit es) e).1
+epoch_fits (o ∷ es) zero e = grind (arith, nat_tests)
+epoch_fits (o ∷ es) (suc i) e = epoch_fits es i (grind (arith, nat_tests))
 
 -- ---- the last messages, sent again
 resend_pairs : (os : List (Option Message)) → pairs_first (flat_map resend os) ≡ true
 resend_pairs [] = refl
 resend_pairs (None ∷ os) = resend_pairs os
-resend_pairs (Some m ∷ os) = and_from (is_late m (flat_map resend os)) (pairs_first (flat_map resend os)) (late os) (resend_pairs os)
+resend_pairs (Some m ∷ os) = grind (arith, late os, resend_pairs os)
   where
     late : (os : List (Option Message)) → is_late m (flat_map resend os) ≡ true
     late [] = refl
@@ -226,49 +180,27 @@ resend_few [] = omega arith
 resend_few (None ∷ os) = omega (arith, resend_few os)
 resend_few (Some m ∷ os) = omega (arith, resend_few os)
 
-resend_acts : (n p : ℕ) (os : List (Option Message)) → All (λ o. any_there (last_fits n p) o ≡ true) os → All (λ a. act_fits n p a ≡ true) (flat_map resend os)
+resend_acts : (n p : ℕ) (os : List (Option Message)) → AllByRecursion (λ o. any_there (last_fits n p) o ≡ true) os → AllByRecursion (λ a. act_fits n p a ≡ true) (flat_map resend os)
 resend_acts n p [] h = tt
 resend_acts n p (None ∷ os) h = resend_acts n p os h.1
 resend_acts n p (Some m ∷ os) h = (h.0, resend_acts n p os h.1)
 
--- ---- a memory in range, in parts
-memory_parts : (n p : ℕ) (y : Memory) → memory_fits n p y ≡ true
-    → (y.heard ≤ 999999) × (any_there (λ k. leb k 999999) y.epoch ≡ true) × All (λ o. any_there (last_fits n p) o ≡ true) y.last × (cond (is_active y.phase) (round_fits y) true ≡ true)
-memory_parts n p y e =
-    let (three, rest) = and_parts (leb y.heard 999999 && any_there (λ k. leb k 999999) y.epoch && every (any_there (last_fits n p)) y.last) (cond (is_active y.phase) (round_fits y) true) e in
-    let (two, last) = and_parts (leb y.heard 999999 && any_there (λ k. leb k 999999) y.epoch) (every (any_there (last_fits n p)) y.last) three in
-    let (heard, epoch) = and_parts (leb y.heard 999999) (any_there (λ k. leb k 999999) y.epoch) two in
-    (leb-true y.heard 999999 heard, epoch, all_of (any_there (last_fits n p)) y.last last, rest)
-
-memory_whole : (n p : ℕ) (y : Memory) → y.heard ≤ 999999 → any_there (λ k. leb k 999999) y.epoch ≡ true → All (λ o. any_there (last_fits n p) o ≡ true) y.last
-    → cond (is_active y.phase) (round_fits y) true ≡ true → memory_fits n p y ≡ true
-memory_whole n p y heard epoch last rest =
-    and_from (leb y.heard 999999 && any_there (λ k. leb k 999999) y.epoch && every (any_there (last_fits n p)) y.last) (cond (is_active y.phase) (round_fits y) true)
-    (and_from (leb y.heard 999999 && any_there (λ k. leb k 999999) y.epoch) (every (any_there (last_fits n p)) y.last)
-    (and_from (leb y.heard 999999) (any_there (λ k. leb k 999999) y.epoch) (le-leb y.heard 999999 heard) epoch)
-    (every_of (any_there (last_fits n p)) y.last last))
-    rest
-
 -- ---- the steps of process p of n, with messages between processes 1 to N; F is what is known of the memory at the start
 module _ (n N p : ℕ) (n1 : 1 ≤ n) (n9 : n ≤ 9) (nN : n ≤ N) (p1 : 1 ≤ p) (pn : p ≤ n) (F : Type 0) where
   -- what every action keeps
-  record Base (s : Step) : Type 0 where
-    pairs : pairs_first s.acts ≡ true
-    acts : F → All (λ a. act_fits N p a ≡ true) s.acts
-    heard : F → s.memory.heard ≤ 999999
-    epoch : F → any_there (λ k. leb k 999999) s.memory.epoch ≡ true
-    last : F → All (λ o. any_there (last_fits N p) o ≡ true) s.memory.last
+  record Sound (done : List Action) (h : ℕ) (o : Option ℕ) (l : List (Option Message)) : Type 0 where
+    pairs : pairs_first done ≡ true
+    acts : F → AllByRecursion (λ a. act_fits N p a ≡ true) done
+    heard : F → h ≤ 999999
+    epoch : F → any_there (λ k. leb k 999999) o ≡ true
+    last : F → AllByRecursion (λ o. any_there (last_fits N p) o ≡ true) l
+
+  abbrev Base : Step → Type 0
+  Base s = Sound s.acts s.memory.heard s.memory.epoch s.memory.last
 
   may_send : (m : Message) → m.sender ≡ p → 1 ≤ m.addressee → m.addressee ≤ n → (m.addressee ≡ p → ⊥) → fields m.kind m.round m.reading m.stamp ≡ true
       → (well_formed N m && eqb m.sender p) ≡ true
-  may_send m from low high other f =
-      and_from (well_formed N m) (eqb m.sender p)
-      (and_from (between N m) (fields m.kind m.round m.reading m.stamp)
-      (and_from ((leb 1 m.sender && leb m.sender N) && (leb 1 m.addressee && leb m.addressee N)) (not (eqb m.sender m.addressee))
-      (and_from (leb 1 m.sender && leb m.sender N) (leb 1 m.addressee && leb m.addressee N)
-      (to_within 1 N m.sender (omega arith) (omega arith)) (to_within 1 N m.addressee low (omega arith)))
-      (ap not (ne_eqb m.sender m.addressee (λ e. other (sym e ∙ from))))) f)
-      (eq-eqb m.sender p from)
+  may_send m from low high other f = grind (arith, nat_tests)
 
   send_base : (m : Message) (s : Step) → (F → (well_formed N m && eqb m.sender p) ≡ true) → Base s → Base (send m s)
   send_base m s ok b = record {
@@ -279,7 +211,7 @@ module _ (n N p : ℕ) (n1 : 1 ≤ n) (n9 : n ≤ 9) (nN : n ≤ N) (p1 : 1 ≤ 
     last = λ f. All-set (λ o. any_there (last_fits N p) o ≡ true) s.memory.last (m.addressee - 1) (Some m) (ok f) (b.last f);
   }
 
-  write_base : (c v t : ℕ) (s : Step) → eqb c 3 ≡ false → (F → act_fits N p (Write c (record { number = v; stamp = t })) ≡ true) → Base s → Base (write c v t s)
+  write_base : (c : CellName) (v t : ℕ) (s : Step) → eqb (cell_number c) 3 ≡ false → (F → act_fits N p (Write c (record { number = v; stamp = t })) ≡ true) → Base s → Base (write c v t s)
   write_base c v t s e ok b = record {
     pairs = pairs_push s.acts (Write c (record { number = v; stamp = t })) b.pairs (apart_write c (record { number = v; stamp = t }) e s.acts);
     acts = λ f. All-push (λ a. act_fits N p a ≡ true) s.acts (Write c (record { number = v; stamp = t })) (b.acts f) (ok f);
@@ -288,30 +220,27 @@ module _ (n N p : ℕ) (n1 : 1 ≤ n) (n9 : n ≤ 9) (nN : n ≤ N) (p1 : 1 ≤ 
     last = b.last;
   }
 
-  pair_base : (v t : ℕ) (s : Step) → All (λ a. silent a ≡ true) s.acts → (F → act_fits N p (Write 3 (record { number = v; stamp = t })) ≡ true) → Base s → Base (write 3 v t s)
+  pair_base : (v t : ℕ) (s : Step) → AllByRecursion (λ a. silent a ≡ true) s.acts → (F → act_fits N p (Write CellName.Pair (record { number = v; stamp = t })) ≡ true) → Base s → Base (write CellName.Pair v t s)
   pair_base v t s quiet ok b = record {
-    pairs = pairs_push s.acts (Write 3 (record { number = v; stamp = t })) b.pairs (apart_pair (record { number = v; stamp = t }) s.acts quiet);
-    acts = λ f. All-push (λ a. act_fits N p a ≡ true) s.acts (Write 3 (record { number = v; stamp = t })) (b.acts f) (ok f);
+    pairs = pairs_push s.acts (Write CellName.Pair (record { number = v; stamp = t })) b.pairs (apart_pair (record { number = v; stamp = t }) s.acts quiet);
+    acts = λ f. All-push (λ a. act_fits N p a ≡ true) s.acts (Write CellName.Pair (record { number = v; stamp = t })) (b.acts f) (ok f);
     heard = b.heard;
     epoch = b.epoch;
     last = b.last;
   }
 
   -- what process p writes
-  fit_write : (c v t : ℕ) → 1 ≤ c → c ≤ 4 → fits c (record { number = v; stamp = t }) ≡ true → act_fits N p (Write c (record { number = v; stamp = t })) ≡ true
-  fit_write c v t h k f = and_from (is_cell p c) (fits c (record { number = v; stamp = t })) (grind (arith, nat_tests)) f
+  fit_proposal : (v : ℕ) → Reading v → act_fits N p (Write CellName.Proposal (record { number = v; stamp = 0 })) ≡ true
+  fit_proposal v (l, h) = grind (arith, nat_tests)
 
-  fit_proposal : (v : ℕ) → Reading v → act_fits N p (Write 1 (record { number = v; stamp = 0 })) ≡ true
-  fit_proposal v (l, h) = fit_write 1 v 0 (omega arith) (omega arith) (grind (arith, nat_tests))
+  fit_round : (r : ℕ) → Round r → act_fits N p (Write CellName.Round (record { number = r; stamp = 0 })) ≡ true
+  fit_round r (l, h) = grind (arith, nat_tests)
 
-  fit_round : (r : ℕ) → Round r → act_fits N p (Write 2 (record { number = r; stamp = 0 })) ≡ true
-  fit_round r (l, h) = fit_write 2 r 0 (omega arith) (omega arith) (grind (arith, nat_tests))
+  fit_pair : (v r : ℕ) → Reading v → r ≤ 999999 → act_fits N p (Write CellName.Pair (record { number = v; stamp = r })) ≡ true
+  fit_pair v r (l, h) k = grind (arith, nat_tests)
 
-  fit_pair : (v r : ℕ) → Reading v → r ≤ 999999 → act_fits N p (Write 3 (record { number = v; stamp = r })) ≡ true
-  fit_pair v r (l, h) k = fit_write 3 v r (omega arith) (omega arith) (grind (arith, nat_tests))
-
-  fit_decision : (v : ℕ) → Reading v → act_fits N p (Write 4 (record { number = v; stamp = 0 })) ≡ true
-  fit_decision v (l, h) = fit_write 4 v 0 (omega arith) (omega arith) (grind (arith, nat_tests))
+  fit_decision : (v : ℕ) → Reading v → act_fits N p (Write CellName.Decision (record { number = v; stamp = 0 })) ≡ true
+  fit_decision v (l, h) = grind (arith, nat_tests)
 
   -- a message for all
   module _ (m : Message) (from : m.sender ≡ p) where
@@ -322,7 +251,7 @@ module _ (n N p : ℕ) (n1 : 1 ≤ n) (n9 : n ≤ 9) (nN : n ≤ N) (p1 : 1 ≤ 
         cond_both (eqb (suc k) m.sender) (to_all k m s) (send (addressed m (suc k)) (to_all k m s)) Base (λ _. t)
         (λ e. send_base (addressed m (suc k)) (to_all k m s)
         (λ i. may_send (addressed m (suc k)) from (omega arith) h
-        (λ same. both_ways (eqb (suc k) m.sender) e (eq-eqb (suc k) m.sender (same ∙ sym from))) (f i)) t)
+        (λ same. grind (arith, nat_tests)) (f i)) t)
 
     -- how many are sent
     all_below : (k : ℕ) (s : Step) → k < p → length (to_all k m s).acts ≡ length s.acts + k
@@ -338,7 +267,7 @@ module _ (n N p : ℕ) (n1 : 1 ≤ n) (n9 : n ≤ 9) (nN : n ≤ N) (p1 : 1 ≤ 
       | inl e ↦
           cond_both (eqb (suc k) m.sender) (to_all k m s) (send (addressed m (suc k)) (to_all k m s)) (λ (u : Step). length u.acts + 1 ≡ length s.acts + suc k)
           (λ _. omega (arith, all_below k s (omega arith)))
-          (λ i. absurd (both_ways (eqb (suc k) m.sender) i (eq-eqb (suc k) m.sender (sym (from ∙ e)))))
+          (λ i. absurd (grind (arith, nat_tests)))
       | inr ne ↦
           cond_both (eqb (suc k) m.sender) (to_all k m s) (send (addressed m (suc k)) (to_all k m s)) (λ (u : Step). length u.acts + 1 ≡ length s.acts + suc k)
           (λ i. absurd (ne (sym from ∙ sym (eqb-true (suc k) m.sender i))))
@@ -355,11 +284,11 @@ module _ (n N p : ℕ) (n1 : 1 ≤ n) (n9 : n ≤ 9) (nN : n ≤ N) (p1 : 1 ≤ 
         cond_both (eqb (suc k) m.sender) (to_all k m s) (send (addressed m (suc k)) (to_all k m s)) (λ (u : Step). Q u.memory)
         (λ _. all_keeps Q keeps k s h) (λ _. keeps (to_all k m s).memory (addressed m (suc k)) (all_keeps Q keeps k s h))
 
-    all_silent : (k : ℕ) (s : Step) → not (is_new_estimate m.kind || is_ack m.kind) ≡ true → All (λ a. silent a ≡ true) s.acts → All (λ a. silent a ≡ true) (to_all k m s).acts
+    all_silent : (k : ℕ) (s : Step) → not (is_new_estimate m.kind || is_ack m.kind) ≡ true → AllByRecursion (λ a. silent a ≡ true) s.acts → AllByRecursion (λ a. silent a ≡ true) (to_all k m s).acts
     unfolding silent
     all_silent zero s q h = h
     all_silent (suc k) s q h =
-        cond_both (eqb (suc k) m.sender) (to_all k m s) (send (addressed m (suc k)) (to_all k m s)) (λ (u : Step). All (λ a. silent a ≡ true) u.acts)
+        cond_both (eqb (suc k) m.sender) (to_all k m s) (send (addressed m (suc k)) (to_all k m s)) (λ (u : Step). AllByRecursion (λ a. silent a ≡ true) u.acts)
         (λ _. all_silent k s q h) (λ _. All-push (λ a. silent a ≡ true) (to_all k m s).acts (Send (addressed m (suc k))) (all_silent k s q h) q)
 
   -- what holds of a step in progress with at most k actions
@@ -367,14 +296,10 @@ module _ (n N p : ℕ) (n1 : 1 ≤ n) (n9 : n ≤ 9) (nN : n ≤ N) (p1 : 1 ≤ 
     base : Base s
     few : length s.acts ≤ k
     sane : F → is_active s.memory.phase ≡ true → Sane s.memory
-    quiet : is_gathering s.memory.phase ≡ true → All (λ a. silent a ≡ true) s.acts
+    quiet : is_gathering s.memory.phase ≡ true → AllByRecursion (λ a. silent a ≡ true) s.acts
 
   fine_more : (j k : ℕ) (s : Step) → j ≤ k → Fine j s → Fine k s
   fine_more j k s h f = record { base = f.base; few = omega (arith, f.few); sane = f.sane; quiet = f.quiet }
-
-  -- a memory that differs only in the last messages
-  sane_noted : (y : Memory) (x : Message) → Sane y → Sane (noted x y)
-  sane_noted y x s = record { round = s.round; reading = s.reading; stamp = s.stamp; kept = s.kept }
 
   abbrev InPhase : Phase → Memory → Type 0
   InPhase f y = y.phase ≡ f
@@ -385,11 +310,11 @@ module _ (n N p : ℕ) (n1 : 1 ≤ n) (n9 : n ≤ 9) (nN : n ≤ N) (p1 : 1 ≤ 
         let e = s.memory.reading in
         let m = decide p e in
         let v : F → Reading e = λ f. (h.sane f (confirming_active s.memory.phase i)).reading in
-        let t = all_base m refl n s (omega arith) (λ f. and_from (eqb 0 0 && is_reading e) (eqb 0 0) (to_reading e (v f)) refl) h.base in
-        let w = write_base 4 e 0 (to_all n m s) refl (λ f. fit_decision e (v f)) t in
+        let t = all_base m refl n s (omega arith) (λ f. let fits = v f in grind (arith, nat_tests)) h.base in
+        let w = write_base CellName.Decision e 0 (to_all n m s) refl (λ f. fit_decision e (v f)) t in
         record {
-          base = record { pairs = w.pairs; acts = w.acts; heard = w.heard; epoch = w.epoch; last = w.last };
-          few = omega (arith, length_push (to_all n m s).acts (Write 4 (record { number = e; stamp = 0 })), all_eight m refl s, h.few);
+          base = w;
+          few = omega (arith, length_push (to_all n m s).acts (Write CellName.Decision (record { number = e; stamp = 0 })), all_eight m refl s, h.few);
           sane = λ f j. absurd (false≢true j);
           quiet = λ j. absurd (false≢true j);
         }
@@ -400,21 +325,20 @@ module _ (n N p : ℕ) (n1 : 1 ≤ n) (n9 : n ≤ 9) (nN : n ≤ N) (p1 : 1 ≤ 
         (λ i. cond_both (enough s.memory.acknowledgers) (conclude n p s) s (Fine (k + 9)) (λ _. conclude_fine k s h i) (λ _. fine_more k (k + 9) s (omega arith) h))
         (λ _. fine_more k (k + 9) s (omega arith) h)
 
-    propound_fine : (k : ℕ) (s : Step) (e : ℕ) → Base s → length s.acts ≤ k → All (λ a. silent a ≡ true) s.acts → (F → Sane s.memory) → (F → Reading e) → Fine (k + 9) (propound n p e s)
+    propound_fine : (k : ℕ) (s : Step) (e : ℕ) → Base s → length s.acts ≤ k → AllByRecursion (λ a. silent a ≡ true) s.acts → (F → Sane s.memory) → (F → Reading e) → Fine (k + 9) (propound n p e s)
     propound_fine k s e b few quiet sane v =
         let r = s.memory.round in
         let m = new_estimate p r e in
         let u = remember (choose p e) s in
-        let x : Base u = record { pairs = b.pairs; acts = b.acts; heard = b.heard; epoch = b.epoch; last = b.last } in
-        let w = pair_base e r u quiet (λ f. fit_pair e r (v f) (sane f).round.1) x in
+        let w = pair_base e r u quiet (λ f. fit_pair e r (v f) (sane f).round.1) b in
         record {
-          base = all_base m refl n (write 3 e r u) (omega arith)
-              (λ f. and_from (is_round r && is_reading e) (eqb 0 0) (and_from (is_round r) (is_reading e) (to_round r (sane f).round) (to_reading e (v f))) refl) w;
-          few = omega (arith, all_eight m refl (write 3 e r u), length_push s.acts (Write 3 (record { number = e; stamp = r })));
+          base = all_base m refl n (write CellName.Pair e r u) (omega arith)
+              (λ f. let now = (sane f).round in let fits = v f in grind (arith, nat_tests)) w;
+          few = omega (arith, all_eight m refl (write CellName.Pair e r u), length_push s.acts (Write CellName.Pair (record { number = e; stamp = r })));
           sane = λ f _.
-              all_keeps m refl Sane sane_noted n (write 3 e r u)
+              all_keeps m refl Sane (λ y x q. q) n (write CellName.Pair e r u)
               (record { round = (sane f).round; reading = v f; stamp = (sane f).round.1; kept = (sane f).kept });
-          quiet = λ j. absurd (not_gathering (to_all n m (write 3 e r u)).memory.phase (all_keeps m refl (InPhase Phase.Confirming) (λ y x q. q) n (write 3 e r u) refl) j);
+          quiet = λ j. absurd (not_gathering (to_all n m (write CellName.Pair e r u)).memory.phase (all_keeps m refl (InPhase Phase.Confirming) (λ y x q. q) n (write CellName.Pair e r u) refl) j);
         }
       where
         not_gathering : (f : Phase) → f ≡ Phase.Confirming → is_gathering f ≡ true → ⊥
@@ -438,24 +362,24 @@ module _ (n N p : ℕ) (n1 : 1 ≤ n) (n9 : n ≤ 9) (nN : n ≤ N) (p1 : 1 ≤ 
     settle_fine k s h = fine_more (k + 9 + 9) (k + 18) (settle n p enough s) (omega arith) (confirmed_fine (k + 9) (gathered n p enough s) (gathered_fine k s h))
 
     -- entering a round
-    module _ (k r : ℕ) (s : Step) (round : F → Round r) (b : Base s) (few : length s.acts ≤ k) (quiet : All (λ a. silent a ≡ true) s.acts)
+    module _ (k r : ℕ) (s : Step) (round : F → Round r) (b : Base s) (few : length s.acts ≤ k) (quiet : AllByRecursion (λ a. silent a ≡ true) s.acts)
         (v : F → Reading s.memory.reading) (t : F → s.memory.stamp ≤ 999999) where
       abbrev u : Step
-      u = write 2 r 0 (remember (begin r) s)
+      u = write CellName.Round r 0 (remember (begin r) s)
 
       u_base : Base u
       u_base =
-          write_base 2 r 0 (remember (begin r) s) refl (λ f. fit_round r (round f))
+          write_base CellName.Round r 0 (remember (begin r) s) refl (λ f. fit_round r (round f))
           (record { pairs = b.pairs; acts = b.acts; heard = b.heard; epoch = λ _. refl; last = b.last })
 
       u_few : length u.acts ≤ k + 1
-      u_few = omega (arith, length_push s.acts (Write 2 (record { number = r; stamp = 0 })))
+      u_few = omega (arith, length_push s.acts (Write CellName.Round (record { number = r; stamp = 0 })))
 
-      u_quiet : All (λ a. silent a ≡ true) u.acts
+      u_quiet : AllByRecursion (λ a. silent a ≡ true) u.acts
       unfolding silent
-      u_quiet = All-push (λ a. silent a ≡ true) s.acts (Write 2 (record { number = r; stamp = 0 })) quiet refl
+      u_quiet = All-push (λ a. silent a ≡ true) s.acts (Write CellName.Round (record { number = r; stamp = 0 })) quiet refl
 
-      none_kept : All (λ o. any_there estimate_fits o ≡ true) (replicate 9 None)
+      none_kept : AllByRecursion (λ o. any_there estimate_fits o ≡ true) (replicate 9 None)
       none_kept = all_replicate (λ o. any_there estimate_fits o ≡ true) 9 None refl
 
       c_in : (1 ≤ coordinator n r) × (coordinator n r ≤ n)
@@ -466,31 +390,30 @@ module _ (n N p : ℕ) (n1 : 1 ≤ n) (n9 : n ≤ 9) (nN : n ≤ N) (p1 : 1 ≤ 
           let e = s.memory.reading in
           let m = new_estimate p r e in
           let x = remember (confirm p) u in
-          let xb : Base x = record { pairs = u_base.pairs; acts = u_base.acts; heard = u_base.heard; epoch = u_base.epoch; last = u_base.last } in
           record {
             base = all_base m refl n x (omega arith)
-                (λ f. and_from (is_round r && is_reading e) (eqb 0 0) (and_from (is_round r) (is_reading e) (to_round r (round f)) (to_reading e (v f))) refl) xb;
+                (λ f. let now = round f in let fits = v f in grind (arith, nat_tests)) u_base;
             few = omega (arith, all_eight m refl x, u_few);
-            sane = λ f _. all_keeps m refl Sane sane_noted n x (record { round = round f; reading = v f; stamp = t f; kept = none_kept });
+            sane = λ f _. all_keeps m refl Sane (λ y x q. q) n x (record { round = round f; reading = v f; stamp = t f; kept = none_kept });
             quiet = λ j. absurd (both_ways (is_gathering (to_all n m x).memory.phase) (ap is_gathering (all_keeps m refl (InPhase Phase.Confirming) (λ y z q. q) n x refl)) j);
           }
 
       gather_fine : Fine (k + 9) (remember (gather p) (to_all n (new_round p r) u))
       gather_fine =
           let m = new_round p r in
-          let w = all_base m refl n u (omega arith) (λ f. and_from (is_round r && eqb 0 0) (eqb 0 0) (and_from (is_round r) (eqb 0 0) (to_round r (round f)) refl) refl) u_base in
+          let w = all_base m refl n u (omega arith) (λ f. let now = round f in grind (arith, nat_tests)) u_base in
           record {
-            base = record { pairs = w.pairs; acts = w.acts; heard = w.heard; epoch = w.epoch; last = w.last };
+            base = w;
             few = omega (arith, all_eight m refl u, u_few);
             sane = λ f _.
                 let y = (to_all n m u).memory in
-                let before : Sane y = all_keeps m refl Sane sane_noted n u (record { round = round f; reading = v f; stamp = t f; kept = none_kept }) in
+                let before : Sane y = all_keeps m refl Sane (λ y x q. q) n u (record { round = round f; reading = v f; stamp = t f; kept = none_kept }) in
                 record {
                   round = before.round;
                   reading = before.reading;
                   stamp = before.stamp;
                   kept = All-set (λ o. any_there estimate_fits o ≡ true) y.kept (p - 1) (Some (record { sender = p; reading = y.reading; stamp = y.stamp }))
-                      (and_from (is_reading y.reading) (leb y.stamp 999999) (to_reading y.reading before.reading) (le-leb y.stamp 999999 before.stamp)) before.kept;
+                      (grind (arith, nat_tests)) before.kept;
                 };
             quiet = λ _. all_silent m refl n u refl u_quiet;
           }
@@ -498,9 +421,9 @@ module _ (n N p : ℕ) (n1 : 1 ≤ n) (n9 : n ≤ 9) (nN : n ≤ N) (p1 : 1 ≤ 
       acked_fine : (p ≡ coordinator n r → ⊥) → Fine (k + 2) (remember (in_phase Phase.Acked) (send (addressed (ack p r) (coordinator n r)) u))
       acked_fine other =
           let m = addressed (ack p r) (coordinator n r) in
-          let w = send_base m u (λ f. may_send m refl c_in.0 c_in.1 (λ e. other (sym e)) (and_from (is_round r && eqb 0 0) (eqb 0 0) (and_from (is_round r) (eqb 0 0) (to_round r (round f)) refl) refl)) u_base in
+          let w = send_base m u (λ f. may_send m refl c_in.0 c_in.1 (λ e. other (sym e)) (let now = round f in grind (arith, nat_tests))) u_base in
           record {
-            base = record { pairs = w.pairs; acts = w.acts; heard = w.heard; epoch = w.epoch; last = w.last };
+            base = w;
             few = omega (arith, length_push u.acts (Send m), u_few);
             sane = λ f _. record { round = round f; reading = v f; stamp = t f; kept = none_kept };
             quiet = λ j. absurd (false≢true j);
@@ -512,9 +435,9 @@ module _ (n N p : ℕ) (n1 : 1 ≤ n) (n9 : n ≤ 9) (nN : n ≤ N) (p1 : 1 ≤ 
           let d = s.memory.stamp in
           let m = addressed (estimate p r e d) (coordinator n r) in
           let w = send_base m u (λ f. may_send m refl c_in.0 c_in.1 (λ q. other (sym q))
-          (and_from (is_round r && is_reading e) (leb d 999999) (and_from (is_round r) (is_reading e) (to_round r (round f)) (to_reading e (v f))) (le-leb d 999999 (t f)))) u_base in
+          (let now = round f in let fits = v f in let young = t f in grind (arith, nat_tests))) u_base in
           record {
-            base = record { pairs = w.pairs; acts = w.acts; heard = w.heard; epoch = w.epoch; last = w.last };
+            base = w;
             few = omega (arith, length_push u.acts (Send m), u_few);
             sane = λ f _. record { round = round f; reading = v f; stamp = t f; kept = none_kept };
             quiet = λ j. absurd (false≢true j);
@@ -531,7 +454,7 @@ module _ (n N p : ℕ) (n1 : 1 ≤ n) (n9 : n ≤ 9) (nN : n ≤ N) (p1 : 1 ≤ 
           (settle_fine (k + 9) (lead n p r u)
           (cond_both (eqb d r) (to_all n (new_estimate p r e) (remember (confirm p) u)) (remember (gather p) (to_all n (new_round p r) u)) (Fine (k + 9)) (λ _. confirm_fine) (λ _. gather_fine))))
           (λ i.
-          let other : p ≡ c → ⊥ = λ q. both_ways (eqb p c) i (eq-eqb p c q) in
+          let other : p ≡ c → ⊥ = λ q. grind (arith, nat_tests) in
           cond_both (eqb d r) (remember (in_phase Phase.Acked) (send (addressed (ack p r) c) u)) (remember (in_phase Phase.Waiting) (send (addressed (estimate p r e d) c) u)) (Fine (k + 27))
           (λ _. fine_more (k + 2) (k + 27) _ (omega arith) (acked_fine other)) (λ _. fine_more (k + 2) (k + 27) _ (omega arith) (waiting_fine other)))
 
@@ -539,12 +462,12 @@ module _ (n N p : ℕ) (n1 : 1 ≤ n) (n9 : n ≤ 9) (nN : n ≤ N) (p1 : 1 ≤ 
     propose_fine : (v : ℕ) (y : Memory) → (F → Reading v) → Base (still y) → Fine 28 (propose n p enough v (still y))
     unfolding propose silent
     propose_fine v y reads b =
-        enter_fine 1 1 (remember (hold v 0) (write 1 v 0 (still y))) (λ _. (omega arith, omega arith))
-        (let w = write_base 1 v 0 (still y) refl (λ f. fit_proposal v (reads f)) b in record { pairs = w.pairs; acts = w.acts; heard = w.heard; epoch = w.epoch; last = w.last })
+        enter_fine 1 1 (remember (hold v 0) (write CellName.Proposal v 0 (still y))) (λ _. (omega arith, omega arith))
+        (write_base CellName.Proposal v 0 (still y) refl (λ f. fit_proposal v (reads f)) b)
         (omega arith) (refl, tt) reads (λ _. omega arith)
 
     -- recover
-    none_last : All (λ o. any_there (last_fits N p) o ≡ true) (replicate 9 None)
+    none_last : AllByRecursion (λ o. any_there (last_fits N p) o ≡ true) (replicate 9 None)
     none_last = all_replicate (λ o. any_there (last_fits N p) o ≡ true) 9 None refl
 
     fresh_base : (y : Memory) → y.heard ≡ 0 → y.epoch ≡ None → y.last ≡ replicate 9 None → Base (still y)
@@ -553,7 +476,7 @@ module _ (n N p : ℕ) (n1 : 1 ≤ n) (n9 : n ≤ 9) (nN : n ≤ N) (p1 : 1 ≤ 
       acts = λ _. tt;
       heard = λ _. omega arith;
       epoch = λ _. ap (any_there (λ k. leb k 999999)) e;
-      last = λ _. subst (All (λ o. any_there (last_fits N p) o ≡ true)) (sym l) none_last;
+      last = λ _. subst (AllByRecursion (λ o. any_there (last_fits N p) o ≡ true)) (sym l) none_last;
     }
 
     recover_fine : (cs : OwnCells) → (F → (sound 1 cs.proposal ≡ true) × (sound 2 cs.round ≡ true) × (sound 3 cs.pair ≡ true)) → Fine 27 (recover n p enough cs)
@@ -581,14 +504,10 @@ module _ (n N p : ℕ) (n1 : 1 ≤ n) (n9 : n ≤ 9) (nN : n ≤ N) (p1 : 1 ≤ 
     -- deliver: m is for p
     module _ (m : Message) (y : Memory) (to : m.addressee ≡ p) (well : F → well_formed n m ≡ true) (b : Base (still y)) (sane : F → is_active y.phase ≡ true → Sane y) where
       says : F → fields m.kind m.round m.reading m.stamp ≡ true
-      says f = (and_parts (between n m) (fields m.kind m.round m.reading m.stamp) (well f)).1
+      says f = let w = well f in grind (arith, nat_tests)
 
       from_other : F → (1 ≤ m.sender) × (m.sender ≤ n) × (m.sender ≡ p → ⊥)
-      from_other f =
-          let (ends, differ) = and_parts ((leb 1 m.sender && leb m.sender n) && (leb 1 m.addressee && leb m.addressee n)) (not (eqb m.sender m.addressee))
-          (and_parts (between n m) (fields m.kind m.round m.reading m.stamp) (well f)).0 in
-          let (low, high) = of_within 1 n m.sender (and_parts (leb 1 m.sender && leb m.sender n) (leb 1 m.addressee && leb m.addressee n) ends).0 in
-          (low, high, λ e. both_ways (eqb m.sender m.addressee) (not-true _ differ) (eq-eqb m.sender m.addressee (e ∙ sym to)))
+      from_other f = let w = well f in (grind (arith, nat_tests), grind (arith, nat_tests), λ e. grind (arith, nat_tests))
 
       abbrev h : Memory
       h = hear m y
@@ -602,24 +521,21 @@ module _ (n N p : ℕ) (n1 : 1 ≤ n) (n9 : n ≤ 9) (nN : n ≤ N) (p1 : 1 ≤ 
         last = b.last;
       }
 
-      heard_sane : F → is_active y.phase ≡ true → Sane h
-      heard_sane f i = let s = sane f i in record { round = s.round; reading = s.reading; stamp = s.stamp; kept = s.kept }
-
       heard_fine : is_decide m.kind ≡ false → Fine 0 (still h)
-      heard_fine other = record { base = heard_base other; few = omega arith; sane = heard_sane; quiet = λ _. tt }
+      heard_fine other = record { base = heard_base other; few = omega arith; sane = sane; quiet = λ _. tt }
 
       keep_fine : is_decide m.kind ≡ false → is_estimate m.kind ≡ true → Fine 0 (remember (keep m) (still h))
       keep_fine other is = record {
-        base = (let w = heard_base other in record { pairs = w.pairs; acts = w.acts; heard = w.heard; epoch = w.epoch; last = w.last });
+        base = heard_base other;
         few = omega arith;
         sane = λ f i.
-            let s = heard_sane f i in
+            let s = sane f i in
             let x : Estimate = record { sender = m.sender; reading = m.reading; stamp = m.stamp } in
             record {
               round = s.round;
               reading = s.reading;
               stamp = s.stamp;
-              kept = cond_both (is_some (get_or h.kept (m.sender - 1) None)) h.kept (set h.kept (m.sender - 1) (Some x)) (All (λ o. any_there estimate_fits o ≡ true)) (λ _. s.kept)
+              kept = cond_both (is_some (get_or h.kept (m.sender - 1) None)) h.kept (set h.kept (m.sender - 1) (Some x)) (AllByRecursion (λ o. any_there estimate_fits o ≡ true)) (λ _. s.kept)
                   (λ _. All-set (λ o. any_there estimate_fits o ≡ true) h.kept (m.sender - 1) (Some x) (kind_estimate m.kind m.round m.reading m.stamp (says f) is) s.kept);
             };
         quiet = λ _. tt;
@@ -627,9 +543,9 @@ module _ (n N p : ℕ) (n1 : 1 ≤ n) (n9 : n ≤ 9) (nN : n ≤ N) (p1 : 1 ≤ 
 
       join_fine : is_decide m.kind ≡ false → Fine 0 (remember (join m) (still h))
       join_fine other = record {
-        base = (let w = heard_base other in record { pairs = w.pairs; acts = w.acts; heard = w.heard; epoch = w.epoch; last = w.last });
+        base = heard_base other;
         few = omega arith;
-        sane = λ f i. let s = heard_sane f i in record { round = s.round; reading = s.reading; stamp = s.stamp; kept = s.kept };
+        sane = sane;
         quiet = λ _. tt;
       }
 
@@ -638,15 +554,13 @@ module _ (n N p : ℕ) (n1 : 1 ≤ n) (n9 : n ≤ 9) (nN : n ≤ N) (p1 : 1 ≤ 
           let r = y.round in
           let x = remember (adopt m) (still h) in
           let a = addressed (ack p r) m.sender in
-          let hb = heard_base other in
           let in_it : F → Sane y = λ f. sane f (waiting_active y.phase waits) in
           let v : F → Reading m.reading = λ f. kind_new_estimate m.kind m.round m.reading m.stamp (says f) is in
-          let xb : Base x = record { pairs = hb.pairs; acts = hb.acts; heard = hb.heard; epoch = hb.epoch; last = hb.last } in
-          let w = pair_base m.reading r x tt (λ f. fit_pair m.reading r (v f) (in_it f).round.1) xb in
-          let z = send_base a (write 3 m.reading r x)
-          (λ f. let o = from_other f in may_send a refl o.0 o.1 o.2 (and_from (is_round r && eqb 0 0) (eqb 0 0) (and_from (is_round r) (eqb 0 0) (to_round r (in_it f).round) refl) refl)) w in
+          let w = pair_base m.reading r x tt (λ f. fit_pair m.reading r (v f) (in_it f).round.1) (heard_base other) in
+          let z = send_base a (write CellName.Pair m.reading r x)
+          (λ f. let o = from_other f in may_send a refl o.0 o.1 o.2 (let now = (in_it f).round in grind (arith, nat_tests))) w in
           record {
-            base = record { pairs = z.pairs; acts = z.acts; heard = z.heard; epoch = z.epoch; last = z.last };
+            base = z;
             few = omega arith;
             sane = λ f _. let s = in_it f in record { round = s.round; reading = v f; stamp = s.round.1; kept = s.kept };
             quiet = λ j. absurd (false≢true j);
@@ -655,17 +569,13 @@ module _ (n N p : ℕ) (n1 : 1 ≤ n) (n9 : n ≤ 9) (nN : n ≤ N) (p1 : 1 ≤ 
       meet_fine : is_decide m.kind ≡ false → Fine 18 (meet n p enough m (still h))
       meet_fine other =
           cond_both (is_gathering y.phase && is_estimate m.kind) (settle n p enough (remember (keep m) (still h))) _ (Fine 18)
-          (λ i. settle_fine 0 (remember (keep m) (still h)) (keep_fine other (and_parts (is_gathering y.phase) (is_estimate m.kind) i).1))
+          (λ i. settle_fine 0 (remember (keep m) (still h)) (keep_fine other (grind arith)))
           (λ _. cond_both (is_confirming y.phase && is_ack m.kind) (settle n p enough (remember (join m) (still h))) _ (Fine 18)
           (λ i. settle_fine 0 (remember (join m) (still h)) (join_fine other))
           (λ _. cond_both (is_waiting y.phase && is_new_estimate m.kind && eqb m.sender (coordinator n y.round)) (accept p m (still h)) (still h) (Fine 18)
           (λ i.
-          let k = and_parts (is_waiting y.phase) (is_new_estimate m.kind) (and_parts (is_waiting y.phase && is_new_estimate m.kind) (eqb m.sender (coordinator n y.round)) i).0 in
-          fine_more 2 18 _ (omega arith) (accept_fine other k.1 k.0))
+          fine_more 2 18 _ (omega arith) (accept_fine other (grind arith) (grind arith)))
           (λ _. fine_more 0 18 _ (omega arith) (heard_fine other))))
-
-      done_quiet : is_done y.phase ≡ true → is_gathering y.phase ≡ true → ⊥
-      done_quiet d g = not_both y.phase d g
 
       reply_fine : (d : Option Content) → is_done y.phase ≡ true → (F → sound 4 d ≡ true) → Fine 18 (reply p d m (still y))
       reply_fine None done fit = record { base = b; few = omega arith; sane = sane; quiet = λ _. tt }
@@ -678,21 +588,21 @@ module _ (n N p : ℕ) (n1 : 1 ≤ n) (n9 : n ≤ 9) (nN : n ≤ N) (p1 : 1 ≤ 
               pairs = refl;
               acts = λ f.
                   let o = from_other f in
-                  (may_send a refl o.0 o.1 o.2 (and_from (eqb 0 0 && is_reading d.number) (eqb 0 0) (and_parts (is_reading d.number) (leb d.stamp 0) (fit f)).0 refl), tt);
+                  (may_send a refl o.0 o.1 o.2 (let fits = fit f in grind (arith, nat_tests)), tt);
               heard = b.heard;
               epoch = b.epoch;
               last = b.last;
             };
             few = omega arith;
             sane = sane;
-            quiet = λ j. absurd (done_quiet done j);
+            quiet = λ j. absurd (grind (arith, nat_tests));
           })
 
       learn_fine : is_decide m.kind ≡ true → Fine 18 (learn m (still y))
       learn_fine is =
-          let w = write_base 4 m.reading 0 (still y) refl (λ f. fit_decision m.reading (kind_decide m.kind m.round m.reading m.stamp (says f) is)) b in
+          let w = write_base CellName.Decision m.reading 0 (still y) refl (λ f. fit_decision m.reading (kind_decide m.kind m.round m.reading m.stamp (says f) is)) b in
           record {
-            base = record { pairs = w.pairs; acts = w.acts; heard = w.heard; epoch = w.epoch; last = w.last };
+            base = w;
             few = omega arith;
             sane = λ f j. absurd (false≢true j);
             quiet = λ j. absurd (false≢true j);
@@ -727,85 +637,72 @@ module _ (n N p : ℕ) (n1 : 1 ≤ n) (n9 : n ≤ 9) (nN : n ≤ N) (p1 : 1 ≤ 
           epoch = λ f. cond_both (is_some y.epoch) y.epoch e (λ (o : Option ℕ). any_there (λ k. leb k 999999) o ≡ true) (λ _. b.epoch f) (λ _. epoch_fits list (coordinator n y.round - 1) (fit f));
           last = b.last;
         })
-        (λ f i. let s = sane f i in record { round = s.round; reading = s.reading; stamp = s.stamp; kept = s.kept })))
+        sane))
         (λ _. stays y b sane)
       where
         goes : (o : Option ℕ) → Least (may_enter n list y) o → IfFine (go_on n p enough y o)
         goes None l = tt
         goes (Some r) (may, least) = λ k long.
-            let (three, trusted) = and_parts (ltb y.round r && leb y.heard r && leb r 999999) (is_some (epoch_of list (coordinator n r))) may in
-            let (two, small) = and_parts (ltb y.round r && leb y.heard r) (leb r 999999) three in
-            let above = ltb-true y.round r (and_parts (ltb y.round r) (leb y.heard r) two).0 in
             let in_it : F → Sane y = λ f. sane f (active f) in
             fine_more 27 k _ long
-            (enter_fine 0 r (still y) (λ _. (omega arith, leb-true r 999999 small)) b (omega arith) tt (λ f. (in_it f).reading) (λ f. (in_it f).stamp))
+            (enter_fine 0 r (still y) (λ _. (grind (arith, nat_tests), grind (arith, nat_tests))) b (omega arith) tt (λ f. (in_it f).reading) (λ f. (in_it f).stamp))
 
   -- what holds at the start, and what it comes to at the end
   base_of : (y : Memory) → (F → memory_fits N p y ≡ true) → Base (still y)
-  base_of y fit =
-      record {
-        pairs = refl;
-        acts = λ _. tt;
-        heard = λ f. (memory_parts N p y (fit f)).0;
-        epoch = λ f. (memory_parts N p y (fit f)).1;
-        last = λ f. (memory_parts N p y (fit f)).2;
-      }
+  base_of y fits = record {
+    pairs = refl;
+    acts = λ _. tt;
+    heard = λ f. let e = fits f in grind (arith, nat_tests);
+    epoch = λ f. let e = fits f in grind (arith, nat_tests);
+    last = λ f. all_of (any_there (last_fits N p)) y.last (let e = fits f in grind (arith, nat_tests));
+  }
 
   sane_of : (y : Memory) → (F → memory_fits N p y ≡ true) → F → is_active y.phase ≡ true → Sane y
-  sane_of y fit f i = of_round_fits y (sym (cond-true (is_active y.phase) (round_fits y) true i) ∙ (memory_parts N p y (fit f)).3)
+  sane_of y fits f i = of_round_fits y (let e = fits f in grind (arith, nat_tests))
 
   lawful_of : (k : ℕ) (s : Step) → Base s → length s.acts ≤ k → (F → is_active s.memory.phase ≡ true → Sane s.memory) → Lawful F N p k s
   lawful_of k s b few sane = record {
     few = few;
     pairs = b.pairs;
-    ranges = λ f. (
-      every_of (act_fits N p) s.acts (b.acts f),
-      memory_whole N p s.memory (b.heard f) (b.epoch f) (b.last f)
-          (cond_both (is_active s.memory.phase) (round_fits s.memory) true (λ (t : Bool). t ≡ true) (λ i. to_round_fits s.memory (sane f i)) (λ _. refl)),
-    );
+    ranges = λ f. (every_of (act_fits N p) s.acts (b.acts f), whole f);
   }
+    where
+      whole : F → memory_fits N p s.memory ≡ true
+      whole f =
+          let heard = b.heard f in
+          let epoch = b.epoch f in
+          let last = every_of (any_there (last_fits N p)) s.memory.last (b.last f) in
+          let round : is_active s.memory.phase ≡ true → round_fits s.memory ≡ true = λ i. to_round_fits s.memory (sane f i) in
+          grind (arith, nat_tests)
 
   lawful_fine : (k : ℕ) (s : Step) → Fine k s → Lawful F N p k s
   lawful_fine k s f = lawful_of k s f.base f.few f.sane
 
--- ---- each public step
-module _ (n N p : ℕ) (enough : List Bool → Bool) (n1 : 1 ≤ n) (n9 : n ≤ 9) (nN : n ≤ N) (p1 : 1 ≤ p) (pn : p ≤ n) where
-  pub propose_lawful : (v : ℕ) (y : Memory) (s : Step) → s ≡ propose n p enough v (still y) → Lawful ((memory_fits N p y ≡ true) × (is_reading v ≡ true)) N p 28 s
-  propose_lawful v y s is =
-      let F : Type 0 = (memory_fits N p y ≡ true) × (is_reading v ≡ true) in
-      subst (Lawful F N p 28) (sym is)
-      (lawful_fine n N p n1 n9 nN p1 pn F 28 (propose n p enough v (still y))
-      (propose_fine n N p n1 n9 nN p1 pn F enough v y (λ f. of_within 1 99999999 v f.1) (base_of n N p n1 n9 nN p1 pn F y (λ f. f.0))))
+  -- ---- each public step
+  module _ (enough : List Bool → Bool) where
+    pub propose_lawful : (v : ℕ) (y : Memory) (s : Step) → s ≡ propose n p enough v (still y) → (F → memory_fits N p y ≡ true) → (F → is_reading v ≡ true) → Lawful F N p 28 s
+    propose_lawful v y s is fits reads =
+        subst (Lawful F N p 28) (sym is)
+        (lawful_fine 28 (propose n p enough v (still y)) (propose_fine enough v y (λ f. let e = reads f in grind (arith, nat_tests)) (base_of y fits)))
 
-  pub recover_lawful : (cs : OwnCells) (s : Step) → s ≡ recover n p enough cs
-      → Lawful ((sound 1 cs.proposal ≡ true) × (sound 2 cs.round ≡ true) × (sound 3 cs.pair ≡ true)) N p 27 s
-  recover_lawful cs s is =
-      let F : Type 0 = (sound 1 cs.proposal ≡ true) × (sound 2 cs.round ≡ true) × (sound 3 cs.pair ≡ true) in
-      subst (Lawful F N p 27) (sym is) (lawful_fine n N p n1 n9 nN p1 pn F 27 (recover n p enough cs) (recover_fine n N p n1 n9 nN p1 pn F enough cs (λ f. f)))
+    pub recover_lawful : (cs : OwnCells) (s : Step) → s ≡ recover n p enough cs → (F → (sound 1 cs.proposal ≡ true) × (sound 2 cs.round ≡ true) × (sound 3 cs.pair ≡ true)) → Lawful F N p 27 s
+    recover_lawful cs s is fits = subst (Lawful F N p 27) (sym is) (lawful_fine 27 (recover n p enough cs) (recover_fine enough cs fits))
 
-  pub look_lawful : (list : List (Option ℕ)) (y : Memory) (r : Result Step NoRound) → r ≡ look n p enough list y
-      → LookLawful ((memory_fits N p y ≡ true) × (is_active y.phase ≡ true) × (epochs_fit list ≡ true)) N p 27 r
-  look_lawful list y r is =
-      let F : Type 0 = (memory_fits N p y ≡ true) × (is_active y.phase ≡ true) × (epochs_fit list ≡ true) in
-      subst (LookLawful F N p 27) (sym is)
-      (come (look n p enough list y)
-      (look_fine n N p n1 n9 nN p1 pn F enough list y (λ f. f.2) (λ f. f.1) (base_of n N p n1 n9 nN p1 pn F y (λ f. f.0)) (sane_of n N p n1 n9 nN p1 pn F y (λ f. f.0))))
-    where
-      come : (r : Result Step NoRound) → IfFine n N p n1 n9 nN p1 pn ((memory_fits N p y ≡ true) × (is_active y.phase ≡ true) × (epochs_fit list ≡ true)) enough r
-          → LookLawful ((memory_fits N p y ≡ true) × (is_active y.phase ≡ true) × (epochs_fit list ≡ true)) N p 27 r
-      come (Ok s) f = lawful_fine n N p n1 n9 nN p1 pn ((memory_fits N p y ≡ true) × (is_active y.phase ≡ true) × (epochs_fit list ≡ true)) 27 s (f 27 (omega arith))
-      come (Err e) f = tt
+    pub look_lawful : (list : List (Option ℕ)) (y : Memory) (r : Result Step NoRound) → r ≡ look n p enough list y
+        → (F → memory_fits N p y ≡ true) → (F → is_active y.phase ≡ true) → (F → epochs_fit list ≡ true) → LookLawful F N p 27 r
+    look_lawful list y r is fits active epochs =
+        subst (LookLawful F N p 27) (sym is) (come (look n p enough list y) (look_fine enough list y epochs active (base_of y fits) (sane_of y fits)))
+      where
+        come : (r : Result Step NoRound) → IfFine enough r → LookLawful F N p 27 r
+        come (Ok s) f = lawful_fine 27 s (f 27 (omega arith))
+        come (Err e) f = tt
 
-  pub again_lawful : (y : Memory) (s : Step) → length y.last ≤ 9 → s ≡ again y → Lawful (memory_fits N p y ≡ true) N p 27 s
-  again_lawful y s short is =
-      let F : Type 0 = memory_fits N p y ≡ true in
-      subst (Lawful F N p 27) (sym is)
-      (lawful_of n N p n1 n9 nN p1 pn F 27 (again y) (again_base n N p n1 n9 nN p1 pn F enough y (base_of n N p n1 n9 nN p1 pn F y (λ f. f))) (omega (arith, resend_few y.last))
-      (sane_of n N p n1 n9 nN p1 pn F y (λ f. f)))
+    pub again_lawful : (y : Memory) (s : Step) → length y.last ≤ 9 → s ≡ again y → (F → memory_fits N p y ≡ true) → Lawful F N p 27 s
+    again_lawful y s short is fits =
+        subst (Lawful F N p 27) (sym is) (lawful_of 27 (again y) (again_base enough y (base_of y fits)) (omega (arith, resend_few y.last)) (sane_of y fits))
 
-  pub deliver_lawful : (m : Message) (y : Memory) (d : Option Content) (s : Step) → m.addressee ≡ p → s ≡ deliver n p enough d m (still y)
-      → Lawful ((memory_fits N p y ≡ true) × (well_formed n m ≡ true) × (sound 4 d ≡ true)) N p 27 s
-  deliver_lawful m y d s to is =
-      let F : Type 0 = (memory_fits N p y ≡ true) × (well_formed n m ≡ true) × (sound 4 d ≡ true) in
-      let f = deliver_fine n N p n1 n9 nN p1 pn F enough m y to (λ f. f.1) (base_of n N p n1 n9 nN p1 pn F y (λ f. f.0)) (sane_of n N p n1 n9 nN p1 pn F y (λ f. f.0)) d (λ f. f.2) in
-      subst (Lawful F N p 27) (sym is) (lawful_fine n N p n1 n9 nN p1 pn F 27 (deliver n p enough d m (still y)) (fine_more n N p n1 n9 nN p1 pn F 18 27 _ (omega arith) f))
+    pub deliver_lawful : (m : Message) (y : Memory) (d : Option Content) (s : Step) → m.addressee ≡ p → s ≡ deliver n p enough d m (still y)
+        → (F → memory_fits N p y ≡ true) → (F → well_formed n m ≡ true) → (F → sound 4 d ≡ true) → Lawful F N p 27 s
+    deliver_lawful m y d s to is fits well cell =
+        subst (Lawful F N p 27) (sym is)
+        (lawful_fine 27 (deliver n p enough d m (still y)) (fine_more 18 27 _ (omega arith) (deliver_fine enough m y to well (base_of y fits) (sane_of y fits) d cell)))

@@ -11,6 +11,8 @@ use Rattle.process.specs.Meetings.{hear}
 use Rattle.process.specs.Phases.{is_ack, is_done, is_estimate, is_gathering, is_new_estimate}
 use Rattle.process.specs.Ranges.{act_fits, every, memory_fits}
 use Rattle.process.specs.Rounds.{Step, still}
+use Rattle.store.specs.declared.content.CellName.TheVariants as CellName
+use Rattle.store.specs.CellNames.{cell_number}
 
 -- a NEWESTIMATE or an ACK of a round tells of a pair with that stamp
 abbrev pub tells_of : Content → Message → Bool
@@ -19,7 +21,7 @@ tells_of v m = (is_new_estimate m.kind || is_ack m.kind) && m.round == v.stamp
 -- no pair that the message tells of is written among the actions
 abbrev pub is_late : Message → List Action → Bool
 is_late m [] = true
-is_late m (Write c v ∷ acts) = not (c == 3 && tells_of v m) && is_late m acts
+is_late m (Write c v ∷ acts) = not (cell_number c == 3 && tells_of v m) && is_late m acts
 is_late m (Send x ∷ acts) = is_late m acts
 
 -- a pair is written before any message that tells of it
@@ -63,4 +65,4 @@ KeptOnce m before after =
 -- the round is the first thing that an entry writes
 abbrev pub RoundFirst : ℕ → Step → Step → Type 0
 RoundFirst r before after =
-    (rest : List Action) × (after.acts ≡ before.acts ++ (Write 2 (record { number = r; stamp = 0 }) ∷ rest))
+    (rest : List Action) × (after.acts ≡ before.acts ++ (Write CellName.Round (record { number = r; stamp = 0 }) ∷ rest))

@@ -2,6 +2,7 @@ pub mod Laws
 pub mod Looks
 pub mod Meetings
 pub mod Messages
+pub mod Names
 pub mod Phases
 pub mod Ranges
 pub mod Rounds

@@ -1,11 +1,13 @@
 -- What a look at a failure detector's list comes to. The list has, for each process, its epoch, or none where it is not trusted.
 use Rattle.std.specs.Prelude.{◌≡◌, ℕ, zero, suc, ◌+◌, ◌-◌, ◌≤◌, max, Bool, true, false, cond, not, ◌&&◌, ◌||◌, List, [], ◌∷◌, ◌++◌, is_some, Some, None, Ok, Err, Option, Result, nat_le, nat_lt, slice_index_or}
+use Rattle.std.specs.List.{list_all, list_any}
 use Rattle.std.specs.Option.{option_map}
 use Rattle.tray.specs.Best.{best_of}
 use Rattle.tray.specs.Kinds.{prefers_round}
 use Rattle.tray.specs.declared.kinds.Round.{Round}
 use Rattle.process.specs.declared.memory.Memory.{Memory}
 use Rattle.process.specs.declared.turn.NoRound.{NoRound}
+use Rattle.process.specs.Ranges.{any_there}
 use Rattle.process.specs.Rounds.{Step, coordinator, enter, still}
 
 -- the epoch of process c
@@ -14,15 +16,11 @@ epoch_of list c = slice_index_or list (c - 1) None
 
 -- every epoch is at most 999,999
 abbrev pub epochs_fit : List (Option ℕ) → Bool
-epochs_fit [] = true
-epochs_fit (None ∷ es) = epochs_fit es
-epochs_fit (Some k ∷ es) = nat_le k 999999 && epochs_fit es
+epochs_fit list = list_all (any_there (λ k. nat_le k 999999)) list
 
 -- some process is trusted
 abbrev pub trusts_some : List (Option ℕ) → Bool
-trusts_some [] = false
-trusts_some (None ∷ es) = trusts_some es
-trusts_some (Some k ∷ es) = true
+trusts_some list = list_any is_some list
 
 -- a round to go on to: above the present one, at least the one heard of, up to 999,999, its coordinator trusted
 abbrev pub may_enter : ℕ → List (Option ℕ) → Memory → ℕ → Bool
@@ -55,17 +53,7 @@ must_leave now m = not (is_some now) || nat_lt m.round m.heard || newer m.epoch 
 
 -- the coordinator's epoch is noted if none was
 abbrev pub note : Option ℕ → Memory → Memory
-note now m = record {
-  phase = m.phase;
-  round = m.round;
-  reading = m.reading;
-  stamp = m.stamp;
-  heard = m.heard;
-  epoch = cond (is_some m.epoch) m.epoch now;
-  kept = m.kept;
-  acknowledgers = m.acknowledgers;
-  last = m.last;
-}
+note now m = record m { epoch = cond (is_some m.epoch) m.epoch now }
 
 -- the next round entered, if there is one
 abbrev pub go_on : ℕ → ℕ → (List Bool → Bool) → Memory → Option ℕ → Result Step NoRound

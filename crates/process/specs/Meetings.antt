@@ -9,67 +9,30 @@ use Rattle.process.specs.declared.memory.Memory.{Memory}
 use Rattle.process.specs.declared.memory.Phase.TheVariants.{Acked, Done}
 use Rattle.process.specs.Phases.{is_waiting, is_gathering, is_confirming, is_done, is_estimate, is_new_estimate, is_ack, is_decide}
 use Rattle.process.specs.Rounds.{Step, ack, addressed, coordinator, decide, in_phase, remember, send, settle, write}
+use Rattle.store.specs.declared.content.CellName.TheVariants as CellName
 
 -- the estimate of a sender is kept if none is kept from it
 abbrev pub keep : Message → Memory → Memory
-keep m y = record {
-  phase = y.phase;
-  round = y.round;
-  reading = y.reading;
-  stamp = y.stamp;
-  heard = y.heard;
-  epoch = y.epoch;
+keep m y = record y {
   kept = cond (is_some (slice_index_or y.kept (m.sender - 1) None)) y.kept (slice_set y.kept (m.sender - 1) (Some (record { sender = m.sender; reading = m.reading; stamp = m.stamp })));
-  acknowledgers = y.acknowledgers;
-  last = y.last;
 }
 
 -- the sender joins the acknowledgers
 abbrev pub join : Message → Memory → Memory
-join m y = record {
-  phase = y.phase;
-  round = y.round;
-  reading = y.reading;
-  stamp = y.stamp;
-  heard = y.heard;
-  epoch = y.epoch;
-  kept = y.kept;
-  acknowledgers = slice_set y.acknowledgers (m.sender - 1) true;
-  last = y.last;
-}
+join m y = record y { acknowledgers = slice_set y.acknowledgers (m.sender - 1) true }
 
 -- the coordinator's reading is taken over, under the round's stamp
 abbrev pub adopt : Message → Memory → Memory
-adopt m y = record {
-  phase = y.phase;
-  round = y.round;
-  reading = m.reading;
-  stamp = y.round;
-  heard = y.heard;
-  epoch = y.epoch;
-  kept = y.kept;
-  acknowledgers = y.acknowledgers;
-  last = y.last;
-}
+adopt m y = record y { reading = m.reading; stamp = y.round }
 
 -- heard rises to the message's round if that is higher
 abbrev pub hear : Message → Memory → Memory
-hear m y = record {
-  phase = y.phase;
-  round = y.round;
-  reading = y.reading;
-  stamp = y.stamp;
-  heard = max y.heard m.round;
-  epoch = y.epoch;
-  kept = y.kept;
-  acknowledgers = y.acknowledgers;
-  last = y.last;
-}
+hear m y = record y { heard = max y.heard m.round }
 
 -- waiting, NEWESTIMATE from c
 abbrev pub accept : ℕ → Message → Step → Step
 accept p m s =
-    remember (in_phase Acked) (send (addressed (ack p s.memory.round) m.sender) (write 3 m.reading s.memory.round (remember (adopt m) s)))
+    remember (in_phase Acked) (send (addressed (ack p s.memory.round) m.sender) (write CellName.Pair m.reading s.memory.round (remember (adopt m) s)))
 
 -- the meeting of p's phase and the message's kind
 abbrev pub meet : ℕ → ℕ → (List Bool → Bool) → Message → Step → Step
@@ -80,7 +43,7 @@ meet n p enough m s =
 
 -- a message sent that counts as no last message
 abbrev pub post : Message → Step → Step
-post m s = record { memory = s.memory; acts = s.acts ++ (Send m ∷ []) }
+post m s = record s { acts = s.acts ++ (Send m ∷ []) }
 
 -- done: the decision goes to the sender of any kind but DECIDE
 abbrev pub reply : ℕ → Option Content → Message → Step → Step
@@ -89,7 +52,7 @@ reply p (Some d) m s = cond (is_decide m.kind) s (post (addressed (decide p d.nu
 
 -- not done, given DECIDE
 abbrev pub learn : Message → Step → Step
-learn m s = remember (in_phase Done) (write 4 m.reading 0 s)
+learn m s = remember (in_phase Done) (write CellName.Decision m.reading 0 s)
 
 -- not done, given any other kind
 abbrev pub heed : ℕ → ℕ → (List Bool → Bool) → Message → Step → Step

@@ -1,5 +1,7 @@
 -- What numbers a memory may hold, and what actions a process may do.
-use Rattle.std.specs.Prelude.{ℕ, Bool, true, cond, ◌&&◌, List, [], ◌∷◌, Some, None, Option, ◌==◌, nat_le}
+use Rattle.std.specs.Prelude.{ℕ, Bool, true, cond, ◌&&◌, List, Some, None, Option, ◌==◌, nat_le}
+use Rattle.std.specs.List.{list_all}
+use Rattle.store.specs.CellNames.{cell_number}
 use Rattle.store.specs.Ranges.{is_cell, fits}
 use Rattle.tray.specs.declared.kinds.Estimate.{Estimate}
 use Rattle.process.specs.declared.message.Message.{Message}
@@ -11,13 +13,12 @@ use Rattle.process.specs.Phases.{is_active}
 
 -- what process p writes is in its cell's range, and what it sends is well-formed and names p as the sender
 abbrev pub act_fits : ℕ → ℕ → Action → Bool
-act_fits n p (Write c v) = is_cell p c && fits c v
+act_fits n p (Write c v) = is_cell p (cell_number c) && fits (cell_number c) v
 act_fits n p (Send m) = well_formed n m && m.sender == p
 
 -- every element passes a test
 abbrev pub every : {A : Type 0} → (A → Bool) → List A → Bool
-every test [] = true
-every test (x ∷ xs) = test x && every test xs
+every test xs = list_all test xs
 
 -- what is there passes a test
 abbrev pub any_there : {A : Type 0} → (A → Bool) → Option A → Bool

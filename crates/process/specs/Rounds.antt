@@ -15,6 +15,7 @@ use Rattle.process.specs.declared.memory.OwnCells.{OwnCells}
 use Rattle.process.specs.declared.memory.Phase.{Phase}
 use Rattle.process.specs.declared.memory.Phase.TheVariants.{Idle, Waiting, Acked, Gathering, Confirming, Done}
 use Rattle.process.specs.Phases.{is_gathering, is_confirming}
+use Rattle.store.specs.declared.content.CellName.{CellName}
 
 -- a step in progress
 pub record Step : Type 0 where
@@ -23,25 +24,15 @@ pub record Step : Type 0 where
 
 -- the memory changed, and nothing done
 abbrev pub remember : (Memory → Memory) → Step → Step
-remember f s = record { memory = f s.memory; acts = s.acts }
+remember f s = record s { memory = f s.memory }
 
 -- one cell written
-abbrev pub write : ℕ → ℕ → ℕ → Step → Step
-write c n t s = record { memory = s.memory; acts = s.acts ++ (Write c (record { number = n; stamp = t }) ∷ []) }
+abbrev pub write : CellName → ℕ → ℕ → Step → Step
+write c n t s = record s { acts = s.acts ++ (Write c (record { number = n; stamp = t }) ∷ []) }
 
 -- m counts as the last message to its addressee
 abbrev pub noted : Message → Memory → Memory
-noted m y = record {
-  phase = y.phase;
-  round = y.round;
-  reading = y.reading;
-  stamp = y.stamp;
-  heard = y.heard;
-  epoch = y.epoch;
-  kept = y.kept;
-  acknowledgers = y.acknowledgers;
-  last = slice_set y.last (m.addressee - 1) (Some m);
-}
+noted m y = record y { last = slice_set y.last (m.addressee - 1) (Some m) }
 
 -- one message sent
 abbrev pub send : Message → Step → Step
@@ -49,7 +40,7 @@ send m s = record { memory = noted m s.memory; acts = s.acts ++ (Send m ∷ []) 
 
 -- a message with another addressee
 abbrev pub addressed : Message → ℕ → Message
-addressed m q = record { sender = m.sender; addressee = q; kind = m.kind; round = m.round; reading = m.reading; stamp = m.stamp }
+addressed m q = record m { addressee = q }
 
 -- a message sent to the processes 1 to k other than its sender, in rising order
 abbrev pub to_all : ℕ → Message → Step → Step
@@ -74,31 +65,11 @@ best_kept ks = best_of prefers_estimate (flat_map option_to_list ks)
 
 -- the choice e of round r: e and its stamp, p the one acknowledger, confirming
 abbrev pub choose : ℕ → ℕ → Memory → Memory
-choose p e y = record {
-  phase = Confirming;
-  round = y.round;
-  reading = e;
-  stamp = y.round;
-  heard = y.heard;
-  epoch = y.epoch;
-  kept = y.kept;
-  acknowledgers = only p;
-  last = y.last;
-}
+choose p e y = record y { phase = Confirming; reading = e; stamp = y.round; acknowledgers = only p }
 
 -- another phase
 abbrev pub in_phase : Phase → Memory → Memory
-in_phase f y = record {
-  phase = f;
-  round = y.round;
-  reading = y.reading;
-  stamp = y.stamp;
-  heard = y.heard;
-  epoch = y.epoch;
-  kept = y.kept;
-  acknowledgers = y.acknowledgers;
-  last = y.last;
-}
+in_phase f y = record y { phase = f }
 
 -- messages of process p, whose addressee is filled in by who sends them; first that it began a round
 abbrev pub new_round : ℕ → ℕ → Message
@@ -122,7 +93,7 @@ decide p e = record { sender = p; addressee = 0; kind = Decide; round = 0; readi
 
 -- e is the reading and the round its stamp; the pair is written, and NEWESTIMATE sent to all
 abbrev pub propound : ℕ → ℕ → ℕ → Step → Step
-propound n p e s = to_all n (new_estimate p s.memory.round e) (write 3 e s.memory.round (remember (choose p e) s))
+propound n p e s = to_all n (new_estimate p s.memory.round e) (write CellName.Pair e s.memory.round (remember (choose p e) s))
 
 -- the best estimate, if there is one, is the choice
 abbrev pub chosen : ℕ → ℕ → Option Estimate → Step → Step
@@ -136,7 +107,7 @@ gathered n p enough s =
 
 -- DECIDE is sent to all, the decision written, and p done
 abbrev pub conclude : ℕ → ℕ → Step → Step
-conclude n p s = remember (in_phase Done) (write 4 s.memory.reading 0 (to_all n (decide p s.memory.reading) s))
+conclude n p s = remember (in_phase Done) (write CellName.Decision s.memory.reading 0 (to_all n (decide p s.memory.reading) s))
 
 -- the decision: confirming, and the acknowledgers are enough
 abbrev pub confirmed : ℕ → ℕ → (List Bool → Bool) → Step → Step
@@ -151,45 +122,15 @@ settle n p enough s = confirmed n p enough (gathered n p enough s)
 
 -- the memory at the entry into round r
 abbrev pub begin : ℕ → Memory → Memory
-begin r y = record {
-  phase = y.phase;
-  round = r;
-  reading = y.reading;
-  stamp = y.stamp;
-  heard = y.heard;
-  epoch = None;
-  kept = replicate 9 None;
-  acknowledgers = replicate 9 false;
-  last = y.last;
-}
+begin r y = record y { round = r; epoch = None; kept = replicate 9 None; acknowledgers = replicate 9 false }
 
 -- p keeps its own estimate, and gathers
 abbrev pub gather : ℕ → Memory → Memory
-gather p y = record {
-  phase = Gathering;
-  round = y.round;
-  reading = y.reading;
-  stamp = y.stamp;
-  heard = y.heard;
-  epoch = y.epoch;
-  kept = slice_set y.kept (p - 1) (Some (record { sender = p; reading = y.reading; stamp = y.stamp }));
-  acknowledgers = y.acknowledgers;
-  last = y.last;
-}
+gather p y = record y { phase = Gathering; kept = slice_set y.kept (p - 1) (Some (record { sender = p; reading = y.reading; stamp = y.stamp })) }
 
 -- p is the one acknowledger, and confirms
 abbrev pub confirm : ℕ → Memory → Memory
-confirm p y = record {
-  phase = Confirming;
-  round = y.round;
-  reading = y.reading;
-  stamp = y.stamp;
-  heard = y.heard;
-  epoch = y.epoch;
-  kept = y.kept;
-  acknowledgers = only p;
-  last = y.last;
-}
+confirm p y = record y { phase = Confirming; acknowledgers = only p }
 
 -- the coordinator p begins its round: it confirms a choice that it made in this round before, else it gathers
 abbrev pub lead : ℕ → ℕ → ℕ → Step → Step
@@ -211,7 +152,7 @@ entered n p enough r s = cond (p == coordinator n r) (settle n p enough (lead n 
 
 -- Enter a round: write it, begin it, and go one of the four ways
 unfoldable pub enter : ℕ → ℕ → (List Bool → Bool) → ℕ → Step → Step
-enter n p enough r s = entered n p enough r (write 2 r 0 (remember (begin r) s))
+enter n p enough r s = entered n p enough r (write CellName.Round r 0 (remember (begin r) s))
 
 -- what a process remembers at first
 abbrev pub blank : Memory
@@ -223,21 +164,11 @@ still m = record { memory = m; acts = [] }
 
 -- the reading with its stamp
 abbrev pub hold : ℕ → ℕ → Memory → Memory
-hold e t y = record {
-  phase = y.phase;
-  round = y.round;
-  reading = e;
-  stamp = t;
-  heard = y.heard;
-  epoch = y.epoch;
-  kept = y.kept;
-  acknowledgers = y.acknowledgers;
-  last = y.last;
-}
+hold e t y = record y { reading = e; stamp = t }
 
 -- Propose: write the proposal, hold it, enter 1
 unfoldable pub propose : ℕ → ℕ → (List Bool → Bool) → ℕ → Step → Step
-propose n p enough v s = enter n p enough 1 (remember (hold v 0) (write 1 v 0 s))
+propose n p enough v s = enter n p enough 1 (remember (hold v 0) (write CellName.Proposal v 0 s))
 
 -- a cell's number, or another where it is absent
 abbrev pub number_or : Option Content → ℕ → ℕ

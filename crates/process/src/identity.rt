@@ -6,7 +6,7 @@ mod tested;
 use super::message::Message;
 
 // The number of a process, from 1 to 9.
-#[derive(Clone, Copy)]
+#[derive(Clone, Copy, PartialEq, Eq, Debug)]
 pub struct ProcessId {
     pub number: u32,
     ghost low: { 1 ≤ number },

@@ -55,7 +55,7 @@ mod tests {
         sender: u32,
         kind: Kind,
         reading: u32,
-    ) -> (usize, Memory) {
+    ) -> Result<(usize, Memory), Fail> {
         let message = Message {
             sender,
             addressee: 2,
@@ -64,28 +64,16 @@ mod tests {
             reading,
             stamp: 0,
         };
-        match Letter::new(rule, message) {
-            Some(letter) => {
-                let turn = deliver_turn(rule, memory, letter, None);
-                (turn.plan.actions().len(), turn.memory)
-            }
-            None => (99, memory),
-        }
+        let letter = Letter::new(rule, message).ok_or("not well-formed")?;
+        let turn = deliver_turn(rule, memory, letter, None);
+        Ok((turn.plan.actions().len(), turn.memory))
     }
 
     #[test]
     fn a_coordinator_settles(rt: HostRuntime) -> Result<(), Fail> {
         let rule = Majority::new(5)?;
-        let Some(p) = ProcessId::new(&rule, 2) else {
-            return Err(Fail::new("no process"));
-        };
-        let fresh = OwnCells {
-            proposal: None,
-            round: None,
-            pair: None,
-            decision: None,
-        };
-        let idle = recover_turn(&rule, p, fresh).memory;
+        let p = ProcessId::new(&rule, 2).ok_or("no process")?;
+        let idle = recover_turn(&rule, p, OwnCells::default()).memory;
         let proposed = propose_turn(&rule, p, idle, 407);
         assert_eq!(rt; proposed.plan.actions().len(), 6);
         let mut memory = proposed.memory;
@@ -98,7 +86,7 @@ mod tests {
             (5, Kind::Ack, 0, 5),
             (5, Kind::Ack, 0, 0),
         ] {
-            let (count, after) = delivered(&rule, memory, sender, kind, reading);
+            let (count, after) = delivered(&rule, memory, sender, kind, reading)?;
             assert_eq!(rt; (sender, count), (sender, actions));
             memory = after;
         }

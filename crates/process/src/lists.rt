@@ -3,26 +3,20 @@ ghost use Rattle.std.specs.Prelude.{◌≡◌, ◌&&◌, length, ◌==◌};
 ghost use Rattle.process.specs.Looks.{epoch_of, epochs_fit, Least, may_enter, must_leave, next_round, trusts_some};
 ghost use Rattle.process.specs.Rounds.{coordinator};
 
+use super::identity::ProcessId;
 use super::memory::Memory;
 use quorum::QuorumRule;
+use store::content::MAX_ROUND;
 use tray::Tray;
 use tray::choice::best_of_tray;
 use tray::kinds::Round;
-
-const LAST_ROUND: u32 = 999_999;
 
 // Whether every epoch is at most 999,999.
 fn do_epochs_fit(list: &[Option<u32>]) -> bool
     ensures { result ≡ epochs_fit list.now }
 {
-    for slot in list {
-        if let Some(epoch) = slot {
-            if LAST_ROUND < *epoch {
-                return false;
-            }
-        }
-    }
-    true
+    list.iter()
+        .all(|slot| slot.is_none_or(|epoch| epoch <= MAX_ROUND))
 }
 
 // Whether a list has n entries, and every epoch is at most 999,999.
@@ -36,20 +30,14 @@ pub fn is_list(n: u32, list: &[Option<u32>]) -> bool
 pub fn trusts_any(list: &[Option<u32>]) -> bool
     ensures { result ≡ trusts_some list.now }
 {
-    for slot in list {
-        if slot.is_some() {
-            return true;
-        }
-    }
-    false
+    list.iter().any(Option::is_some)
 }
 
 // The epoch of a round's coordinator, or none where it is not trusted.
 pub fn coordinator_epoch<R: QuorumRule>(rule: &R, list: &[Option<u32>], round: u32) -> Option<u32>
     ensures { result ≡ epoch_of list.now (coordinator (R.QuorumRule.processes rule.now) round) }
 {
-    let i = (round % rule.size()) as usize;
-    if i < list.len() { list[i] } else { None }
+    *list.get(ProcessId::coordinator_of(rule, round).place())?
 }
 
 // Whether a process must leave its round, by its coordinator's epoch.
@@ -59,13 +47,7 @@ pub fn must_go(epoch: Option<u32>, memory: &Memory) -> bool
     let Some(now) = epoch else {
         return true;
     };
-    if memory.round < memory.heard {
-        return true;
-    }
-    match memory.epoch {
-        None => false,
-        Some(noted) => noted < now,
-    }
+    memory.round < memory.heard || memory.epoch.is_some_and(|noted| noted < now)
 }
 
 // Whether a round may be entered next.
@@ -74,7 +56,7 @@ fn is_next<R: QuorumRule>(rule: &R, list: &[Option<u32>], memory: &Memory, round
 {
     memory.round < round
         && memory.heard <= round
-        && round <= LAST_ROUND
+        && round <= MAX_ROUND
         && coordinator_epoch(rule, list, round).is_some()
 }
 
@@ -84,20 +66,17 @@ pub fn find_next<R: QuorumRule>(rule: &R, list: &[Option<u32>], memory: &Memory)
     ensures least { Least (may_enter (R.QuorumRule.processes rule.now) list.now memory.now) result }
     ensures value { result ≡ next_round (R.QuorumRule.processes rule.now) list.now memory.now }
 {
-    if LAST_ROUND <= memory.round || LAST_ROUND < memory.heard {
+    if MAX_ROUND <= memory.round || MAX_ROUND < memory.heard {
         return None;
     }
+    // The candidates are copied into a tray, and the best of it is taken, as of any other tray.
     let start = (memory.round + 1).max(memory.heard);
-    let mut slots = [Round { number: 0 }; 9];
+    let mut slots = [Round::default(); 9];
     let mut tray = Tray::new(&mut slots);
-    for i in 0..rule.size() {
-        let number = start + i;
+    for number in start..start + rule.size() {
         if is_next(rule, list, memory, number) {
             let _ = tray.put(Round { number });
         }
     }
-    match best_of_tray(&tray) {
-        Some(round) => Some(round.number),
-        None => None,
-    }
+    best_of_tray(&tray).map(|round| round.number)
 }

@@ -1,9 +1,14 @@
 //! Messages between processes.
-ghost use Rattle.std.specs.Prelude.{◌≡◌};
+ghost use Rattle.std.specs.Prelude.{◌≡◌, Some};
 ghost use Rattle.process.specs.Messages.{is_reading, is_round, well_formed};
+ghost use Rattle.process.specs.Names.{kind_name};
 
-#[derive(Clone, Copy, PartialEq, Eq, Debug)]
+use std::fmt;
+use store::content::{MAX_READING, MAX_ROUND};
+
+#[derive(Clone, Copy, Default, PartialEq, Eq, Debug)]
 pub enum Kind {
+    #[default]
     NewRound,
     Estimate,
     NewEstimate,
@@ -11,7 +16,7 @@ pub enum Kind {
     Decide,
 }
 
-#[derive(Clone, Copy, PartialEq, Eq, Debug)]
+#[derive(Clone, Copy, Default, PartialEq, Eq, Debug)]
 pub struct Message {
     pub sender: u32,
     pub addressee: u32,
@@ -21,18 +26,32 @@ pub struct Message {
     pub stamp: u32,
 }
 
+impl fmt::Display for Kind {
+    ghost output = { λ k. Some (kind_name k) };
+
+    fn fmt<W: fmt::Write>(&self, f: &mut fmt::Formatter<W>) -> fmt::Result {
+        match *self {
+            Kind::NewRound => write!(f, "NEWROUND"),
+            Kind::Estimate => write!(f, "ESTIMATE"),
+            Kind::NewEstimate => write!(f, "NEWESTIMATE"),
+            Kind::Ack => write!(f, "ACK"),
+            Kind::Decide => write!(f, "DECIDE"),
+        }
+    }
+}
+
 // Whether a number is a round.
 pub fn is_round(n: u32) -> bool
     ensures { result ≡ is_round n }
 {
-    1 <= n && n <= 999_999
+    (1..=MAX_ROUND).contains(&n)
 }
 
 // Whether a number is a reading.
 pub fn is_reading(n: u32) -> bool
     ensures { result ≡ is_reading n }
 {
-    1 <= n && n <= 99_999_999
+    (1..=MAX_READING).contains(&n)
 }
 
 impl Message {
@@ -41,10 +60,9 @@ impl Message {
     pub fn is_well_formed(&self, n: u32) -> bool
         ensures { result ≡ well_formed n self.now }
     {
-        let between = 1 <= self.sender
-            && self.sender <= n
-            && 1 <= self.addressee
-            && self.addressee <= n
+        let processes = 1..=n;
+        let between = processes.contains(&self.sender)
+            && processes.contains(&self.addressee)
             && self.sender != self.addressee;
         between
             && match self.kind {
@@ -52,7 +70,7 @@ impl Message {
                     is_round(self.round) && self.reading == 0 && self.stamp == 0
                 }
                 Kind::Estimate => {
-                    is_round(self.round) && is_reading(self.reading) && self.stamp <= 999_999
+                    is_round(self.round) && is_reading(self.reading) && self.stamp <= MAX_ROUND
                 }
                 Kind::NewEstimate => {
                     is_round(self.round) && is_reading(self.reading) && self.stamp == 0

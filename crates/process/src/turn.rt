@@ -5,7 +5,8 @@ pub mod steps;
 
 use super::memory::{Action, Memory};
 
-// Actions in order. No step has more than 28.
+// Actions in order. No step has more than 28. A fixed array and its length, since there is no heap; no model,
+// since a plan is copied, and a model that is copied gives back the places beyond the length too.
 #[derive(Clone, Copy)]
 pub struct Plan {
     actions: [Action; 32],

@@ -1,5 +1,6 @@
 -- When a set of processes is enough, rule by rule.
-use Rattle.std.specs.Prelude.{ℕ, ◌+◌, ◌*◌, Bool, true, cond, ◌&&◌, ◌||◌, List, [], ◌∷◌, length, take, nat_le, nat_lt}
+use Rattle.std.specs.Prelude.{ℕ, ◌+◌, ◌*◌, Bool, ◌&&◌, ◌||◌, List, length, take, map, filter, zip, sum, count_by, nat_le, nat_lt}
+use Rattle.std.specs.List.{list_all}
 use Rattle.quorum.specs.Laws.{has}
 
 -- a rule is for 1 to 9 processes
@@ -8,8 +9,7 @@ is_size n = nat_le 1 n && nat_le n 9
 
 -- how many members a set has
 abbrev pub members : List Bool → ℕ
-members [] = 0
-members (b ∷ set) = cond b 1 0 + members set
+members set = count_by (λ b. b) set
 
 -- majority: twice the members exceed n
 abbrev pub majority : ℕ → List Bool → Bool
@@ -17,14 +17,11 @@ majority n set = nat_lt n (2 * members (take n set))
 
 -- the weights together
 abbrev pub total : List ℕ → ℕ
-total [] = 0
-total (w ∷ ws) = w + total ws
+total ws = sum ws
 
 -- the weights of a set's members together
 abbrev pub weight : List ℕ → List Bool → ℕ
-weight [] set = 0
-weight (w ∷ ws) [] = 0
-weight (w ∷ ws) (b ∷ set) = cond b w 0 + weight ws set
+weight ws set = sum (map (λ p. p.0) (filter (λ p. p.1) (zip ws set)))
 
 -- weights: twice the set's weight exceeds the total
 abbrev pub heavy : List ℕ → List Bool → Bool
@@ -32,8 +29,7 @@ heavy ws set = nat_lt (total ws) (2 * weight ws set)
 
 -- no weight is above 99
 abbrev pub light : List ℕ → Bool
-light [] = true
-light (w ∷ ws) = nat_le w 99 && light ws
+light ws = list_all (λ w. nat_le w 99) ws
 
 -- weights of which a rule can be made
 abbrev pub are_weights : List ℕ → Bool

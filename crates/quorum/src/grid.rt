@@ -1,5 +1,5 @@
 //! Nine processes in three rows of three.
-ghost use Rattle.std.specs.Prelude.{◌≡◌, ◌+◌, ◌≤◌};
+ghost use Rattle.std.specs.Prelude.{◌≡◌, length};
 ghost use Rattle.quorum.specs.Rules.{grid, whole_row, some_of_row};
 ghost use Rattle.quorum.specs.Rows.{grid_shares, grid_grows};
 ghost use Rattle.std.proofs.Common.{rules};
@@ -10,20 +10,20 @@ use super::{ProcessSet, QuorumRule};
 #[derive(Clone, Copy)]
 pub struct Grid;
 
-// Whether the set holds the whole row whose first process is at the index k.
-fn has_row(set: &ProcessSet, k: usize) -> bool
-    requires { k ≤ 6 }
-    ensures { result ≡ whole_row set.now k }
+// Whether every process of a row is a member.
+fn is_whole(row: &[bool]) -> bool
+    requires { length row.now ≡ 3 }
+    ensures { result ≡ whole_row row.now 0 }
 {
-    set[k] & set[k + 1] & set[k + 2]
+    row.iter().all(|member| *member)
 }
 
-// Whether the set holds some process of that row.
-fn has_some(set: &ProcessSet, k: usize) -> bool
-    requires { k ≤ 6 }
-    ensures { result ≡ some_of_row set.now k }
+// Whether some process of a row is a member.
+fn is_met(row: &[bool]) -> bool
+    requires { length row.now ≡ 3 }
+    ensures { result ≡ some_of_row row.now 0 }
 {
-    set[k] | set[k + 1] | set[k + 2]
+    row.iter().any(|member| *member)
 }
 
 impl QuorumRule for Grid {
@@ -44,7 +44,11 @@ impl QuorumRule for Grid {
     }
 
     fn enough(&self, set: &ProcessSet) -> bool {
-        (has_row(set, 0) | has_row(set, 3) | has_row(set, 6))
-            & (has_some(set, 0) & has_some(set, 3) & has_some(set, 6))
+        // Named rows: for `any` and `all` over `chunks_exact` the check stops at its limit of instances.
+        let (first, second, third) = (&set[..3], &set[3..6], &set[6..]);
+        (is_whole(first) || is_whole(second) || is_whole(third))
+            && is_met(first)
+            && is_met(second)
+            && is_met(third)
     }
 }

@@ -58,11 +58,7 @@ mod tests {
 
     // The set of the processes that are written as ones, process 1 first.
     fn set_of(text: &[u8; 9]) -> ProcessSet {
-        let mut set = [false; 9];
-        for (i, b) in text.iter().enumerate() {
-            set[i] = *b == b'1';
-        }
-        set
+        text.map(|b| b == b'1')
     }
 
     #[test]
@@ -80,8 +76,8 @@ mod tests {
             (Grid.enough(&set_of(b"111110000")), false),
             (Grid.enough(&set_of(b"110110110")), false),
         ];
-        for (i, row) in table.iter().enumerate() {
-            assert_eq!(rt; (i, row.0), (i, row.1));
+        for (i, (is, wanted)) in table.into_iter().enumerate() {
+            assert_eq!(rt; (i, is), (i, wanted));
         }
         assert_eq!(rt; (four.size(), uneven.size(), Grid.size()), (4, 5, 9));
         Ok(())
@@ -103,8 +99,8 @@ mod tests {
             (Weights::new(&[99; 9]).is_ok(), true),
             (Weights::new(&[1; 10]).is_ok(), false),
         ];
-        for (i, row) in made.iter().enumerate() {
-            assert_eq!(rt; (i, row.0), (i, row.1));
+        for (i, (is, wanted)) in made.into_iter().enumerate() {
+            assert_eq!(rt; (i, is), (i, wanted));
         }
         assert_eq!(rt; CannotBeMade.number(), 15);
     }

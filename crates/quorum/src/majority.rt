@@ -5,7 +5,8 @@ ghost use Rattle.quorum.specs.Weighing.{majority_shares, majority_grows, majorit
 
 use super::{CannotBeMade, ProcessSet, QuorumRule};
 
-// A set is enough when twice its members exceed n.
+// A set is enough when twice its members exceed n. The bounds of n stand here and at `Weights`: a size as a
+// type would be longer than both.
 #[derive(Clone, Copy)]
 pub struct Majority {
     n: u32,
@@ -14,18 +15,13 @@ pub struct Majority {
 }
 
 // How many of the first n processes are members of the set.
-fn count_members(set: &ProcessSet, n: u32) -> u32
-    requires { n ≤ 9 }
-    ensures value { result ≡ members (take n set.now) }
-    ensures bound { result ≤ n }
+fn count_members(set: &ProcessSet, n: u32) -> usize
+    ensures { result ≡ members (take n set.now) }
 {
-    let mut count = 0;
-    for i in 0..n as usize {
-        if set[i] {
-            count += 1;
-        }
-    }
-    count
+    set.iter()
+        .take(n as usize)
+        .filter(|member| **member)
+        .count()
 }
 
 impl Majority {
@@ -34,10 +30,7 @@ impl Majority {
         ensures test { is_ok result ≡ is_size n }
         ensures kept { IfOk result (λ x. x.n ≡ n) }
     {
-        if n < 1 {
-            return Err(CannotBeMade);
-        }
-        if 9 < n {
+        if !(1..=9).contains(&n) {
             return Err(CannotBeMade);
         }
         Ok(Majority { n })
@@ -62,6 +55,6 @@ impl QuorumRule for Majority {
     }
 
     fn enough(&self, set: &ProcessSet) -> bool {
-        self.n < 2 * count_members(set, self.n)
+        (self.n as usize) < 2 * count_members(set, self.n)
     }
 }

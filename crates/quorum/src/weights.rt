@@ -8,7 +8,8 @@ use super::{CannotBeMade, ProcessSet, QuorumRule};
 // The most that one process may weigh.
 const MAX_WEIGHT: u32 = 99;
 
-// A set is enough when twice its weight exceeds the weight of all n processes.
+// A set is enough when twice its weight exceeds the weight of all n processes. The weights are the first n
+// of nine places: a rule is copied, and there is no heap.
 #[derive(Clone, Copy)]
 pub struct Weights {
     n: u32,
@@ -18,27 +19,25 @@ pub struct Weights {
     ghost heavy: { 0 < total (take n each) },
 }
 
-// What the members of the set among the first n processes weigh together.
-fn weigh(each: &[u8; 9], n: u32, set: &ProcessSet) -> u32
-    requires { n ≤ 9 }
-    ensures value { result ≡ weight (take n each.now) set.now }
-    ensures bound { result ≤ 255 * n }
+// What the members of the set weigh together.
+fn weigh(weights: &[u8], set: &ProcessSet) -> u32
+    requires { length weights.now ≤ 9 }
+    ensures { result ≡ weight weights.now set.now }
 {
-    let mut sum = 0;
-    for i in 0..n as usize {
-        if set[i] {
-            sum += u32::from(each[i]);
-        }
-    }
-    sum
+    weights
+        .iter()
+        .zip(set)
+        .filter(|(_, member)| **member)
+        .map(|(w, _)| u32::from(*w))
+        .sum()
 }
 
-// What the first n processes weigh together.
-fn weigh_all(each: &[u8; 9], n: u32) -> u32
-    requires { n ≤ 9 }
-    ensures { result ≡ total (take n each.now) }
+// What all of them weigh together.
+fn weigh_all(weights: &[u8]) -> u32
+    requires { length weights.now ≤ 9 }
+    ensures { result ≡ total weights.now }
 {
-    weigh(each, n, &[true; 9])
+    weights.iter().map(|w| u32::from(*w)).sum()
 }
 
 // The weights in nine places, of which none may be above 99.
@@ -48,6 +47,7 @@ fn to_places(weights: &[u32]) -> Result<[u8; 9], CannotBeMade>
     ensures kept { IfOk result (λ each. take (length weights.now) each ≡ weights.now) }
 {
     let mut each = [0; 9];
+    // By the index: after a loop over `each.iter_mut()` that is zipped, nothing is known of the places.
     for (i, w) in weights.iter().enumerate() {
         if *w > MAX_WEIGHT {
             return Err(CannotBeMade);
@@ -63,18 +63,24 @@ impl Weights {
         ensures test { is_ok result ≡ are_weights weights.now }
         ensures kept { IfOk result (λ x. (x.n ≡ length weights.now) × (take x.n x.each ≡ weights.now)) }
     {
-        if weights.is_empty() {
+        if !(1..=9).contains(&weights.len()) {
             return Err(CannotBeMade);
         }
-        if 9 < weights.len() {
-            return Err(CannotBeMade);
-        }
-        let n = weights.len() as u32;
         let each = to_places(weights)?;
-        if weigh_all(&each, n) == 0 {
+        if weigh_all(&each[..weights.len()]) == 0 {
             return Err(CannotBeMade);
         }
-        Ok(Weights { n, each })
+        Ok(Weights {
+            n: weights.len() as u32,
+            each,
+        })
+    }
+
+    // The weights, a process for each of them.
+    fn as_slice(&self) -> &[u8]
+        ensures { result.now ≡ take self.now.n self.now.each }
+    {
+        &self.each[..self.n as usize]
     }
 }
 
@@ -96,6 +102,7 @@ impl QuorumRule for Weights {
     }
 
     fn enough(&self, set: &ProcessSet) -> bool {
-        weigh_all(&self.each, self.n) < 2 * weigh(&self.each, self.n, set)
+        let weights = self.as_slice();
+        weigh_all(weights) < 2 * weigh(weights, set)
     }
 }

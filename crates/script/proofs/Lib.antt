@@ -1,4 +1,5 @@
 mod Entries
 mod Figures
+mod Names
 mod ReadBack
 mod Splits

@@ -2,15 +2,19 @@
 use Rattle.std.proofs.Common.{◌≡◌, ℕ, ◌^◌, ◌<◌, true, false, eqb, List, [], ◌∷◌, ◌++◌, map, length, Some, None, codes, decimal, Option, refl, ap, ◌∙◌, append-nil, arith, rules}
 use Rattle.script.proofs.Figures.{number_is}
 use Rattle.script.proofs.Splits.{filled_first}
-use Rattle.script.specs.Calls.{cut, cut_number, epoch, lone_number}
+use Rattle.agreement.specs.declared.call.Call.{Call}
+use Rattle.agreement.specs.declared.call.Call.TheVariants.{Again, Crash, Deliver, Look, Lose, Propose, Recover}
+use Rattle.script.specs.Calls.{cut, cut_number, epoch, lone_number, named_call}
 use Rattle.script.specs.Commands.{command}
-use Rattle.script.specs.Laws.{AllSmall, ReadBack, Small, cut_words, epoch_word, spaced}
-use Rattle.script.specs.Rows.{beyond, entries}
+use Rattle.script.specs.Laws.{AllSmall, ReadAs, ReadBack, Small, cut_words, epoch_word, spaced}
+use Rattle.script.specs.Rows.{beyond, entries, row_of}
+use Rattle.script.specs.declared.row.Row.{Row}
 use Rattle.script.specs.Words.{filled, number, onto, pieces, read_on, words}
 use Rattle.std.proofs.lemmas.Fmt.{decimal_nonempty, digits_decimal, digits_value-decimal}
 use Rattle.std.proofs.lemmas.Str.Parse.{IsNumeralModel, numerals_by_fold, tells_all_ascii_digits}
 use Rattle.std.proofs.lemmas.Bool.{and_parts, lt-ltb}
 use Rattle.std.specs.Char.{is_ascii_digit}
+use Rattle.std.specs.Option.{option_map}
 use Rattle.std.specs.Str.{all_ascii_digits, bytes_eq}
 
 -- a word: bytes that are no blanks, and one at least
@@ -110,26 +114,34 @@ beyond_back : (xs : List (Option ℕ)) (k : Option ℕ) → AllSmall xs → beyo
 beyond_back [] k all = (entries_none k).1
 beyond_back (x ∷ xs) k all = rw (epoch_back x all.0) (beyond_back xs k all.1)
 
--- and so does every call
+-- and so does every call: one of a number and a cut, and one of a number alone
+module _ (name : List ℕ) (word : Word name) where
+  line_back : (ws : List (List ℕ)) (call : Call (Row (Option ℕ))) → AllWords ws → named_call name ws ≡ Some call → ReadAs name ws call
+  line_back ws call all e = ap command (words_spaced name ws word all) ∙ rw e refl
+
+  cut_call_back : (call : ℕ → Option ℕ → Call (Row (Option ℕ))) → ((ws : List (List ℕ)) → named_call name ws ≡ option_map (λ v. call v.0 v.1) (cut_number ws)) →
+      (p : ℕ) (k : Option ℕ) → p < 2 ^ 32 → Small k → ReadAs name (decimal p ∷ cut_words k) (call p k)
+  cut_call_back call e p k h s =
+      line_back (decimal p ∷ cut_words k) (call p k) (number_word p h, cut_all_words k s)
+      (e (decimal p ∷ cut_words k) ∙ ap (option_map (λ v. call v.0 v.1)) (cut_number_back p k h s))
+
+  lone_call_back : (call : ℕ → Call (Row (Option ℕ))) → ((ws : List (List ℕ)) → named_call name ws ≡ option_map call (lone_number ws)) →
+      (p : ℕ) → p < 2 ^ 32 → ReadAs name (decimal p ∷ []) (call p)
+  lone_call_back call e p h =
+      line_back (decimal p ∷ []) (call p) (number_word p h, tt) (e (decimal p ∷ []) ∙ ap (option_map call) (lone_back p h))
+
 pub read_back : ReadBack
 read_back = record {
-  recover = λ p k h s.
-      ap command (words_spaced (codes "recover") (decimal p ∷ cut_words k) (omega arith, search rules) (number_word p h, cut_all_words k s))
-      ∙ rw (cut_number_back p k h s) refl;
+  recover = cut_call_back (codes "recover") (omega arith, search rules) Recover (λ ws. refl);
   propose = λ p v k h i s.
-      ap command (words_spaced (codes "propose") (decimal p ∷ decimal v ∷ cut_words k) (omega arith, search rules) (number_word p h, (number_word v i, cut_all_words k s)))
-      ∙ rw (number_back p h) (rw (cut_number_back v k i s) refl);
+      line_back (codes "propose") (omega arith, search rules) (decimal p ∷ decimal v ∷ cut_words k) (Propose p v k)
+      (number_word p h, (number_word v i, cut_all_words k s)) (rw (number_back p h) (rw (cut_number_back v k i s) refl));
   look = λ p xs k h all s.
-      ap command (words_spaced (codes "look") (decimal p ∷ (map epoch_word xs ++ cut_words k)) (omega arith, search rules) (number_word p h, list_all_words xs k all s))
-      ∙ rw (number_back p h) (rw (beyond_back xs k all) (rw (cut_back k s) (rw (entries_back xs k all) refl)));
-  deliver = λ p k h s.
-      ap command (words_spaced (codes "deliver") (decimal p ∷ cut_words k) (omega arith, search rules) (number_word p h, cut_all_words k s))
-      ∙ rw (cut_number_back p k h s) refl;
-  again = λ p k h s.
-      ap command (words_spaced (codes "again") (decimal p ∷ cut_words k) (omega arith, search rules) (number_word p h, cut_all_words k s))
-      ∙ rw (cut_number_back p k h s) refl;
-  lose = λ m h.
-      ap command (words_spaced (codes "lose") (decimal m ∷ []) (omega arith, search rules) (number_word m h, tt)) ∙ rw (lone_back m h) refl;
-  crash = λ p h.
-      ap command (words_spaced (codes "crash") (decimal p ∷ []) (omega arith, search rules) (number_word p h, tt)) ∙ rw (lone_back p h) refl;
+      line_back (codes "look") (omega arith, search rules) (decimal p ∷ (map epoch_word xs ++ cut_words k)) (Look p (row_of None xs) k)
+      (number_word p h, list_all_words xs k all s)
+      (rw (number_back p h) (rw (beyond_back xs k all) (rw (cut_back k s) (rw (entries_back xs k all) refl))));
+  deliver = cut_call_back (codes "deliver") (omega arith, search rules) Deliver (λ ws. refl);
+  again = cut_call_back (codes "again") (omega arith, search rules) Again (λ ws. refl);
+  lose = lone_call_back (codes "lose") (omega arith, search rules) Lose (λ ws. refl);
+  crash = lone_call_back (codes "crash") (omega arith, search rules) Crash (λ ws. refl);
 }

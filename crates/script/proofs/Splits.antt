@@ -1,37 +1,18 @@
 -- The words of a line, from its front.
-use Rattle.std.proofs.Common.{◌≡◌, ℕ, suc, ◌+◌, ◌<◌, ◌≤◌, Bool, true, false, cond, eqb, List, [], ◌∷◌, length, get_or, take, drop, sym, refl, ap, ◌∙◌, subst, add-one, arith, length-take-le, drop-cons}
+use Rattle.std.proofs.Common.{◌≡◌, ℕ, ◌<◌, Bool, true, false, eqb, List, [], ◌∷◌, length, take, drop, sym, refl, ap, ◌∙◌, subst, one-add, arith, length-take-le}
 use Rattle.std.proofs.lemmas.List.{nil_from_length}
-use Rattle.script.specs.Words.{alike, feedless, filled, onto, pieces, run, words}
+use Rattle.std.proofs.lemmas.List.Sums.{prefix_len-le-length}
+use Rattle.std.specs.List.{prefix_len}
+use Rattle.script.specs.Words.{alike, filled, onto, pieces, words}
 
--- one more byte of a run
-pub run_more : (v : Bool) (xs : List ℕ) (i : ℕ) → run v xs ≡ i + run v (drop i xs) → i < length xs →
-    alike v (get_or xs i 0) ≡ true → run v xs ≡ i + 1 + run v (drop (i + 1) xs)
-run_more v xs i e h a =
-    let c = drop-cons xs i 0 h in
-    let k : run v (drop i xs) ≡ suc (run v (drop (suc i) xs)) = rw c (rw a refl) in
-    rw add-one (omega (arith, e, k))
-
--- a run ends at another byte
-pub run_ends : (v : Bool) (xs : List ℕ) (i : ℕ) → run v xs ≡ i + run v (drop i xs) → i < length xs →
-    alike v (get_or xs i 0) ≡ false → i ≡ run v xs
-run_ends v xs i e h a =
-    let c = drop-cons xs i 0 h in
-    let k : run v (drop i xs) ≡ 0 = rw c (rw a refl) in
-    omega (arith, e, k)
-
--- a run is no longer than its line
-pub run_within : (v : Bool) (xs : List ℕ) → run v xs ≤ length xs
-run_within v [] = omega arith
-run_within v (b ∷ bs) =
-    elim (alike v b) as (λ t. cond t (suc (run v bs)) 0 ≤ length (b ∷ bs)) [
-      | true ↦ omega (arith, run_within v bs)
-      | false ↦ omega arith
-    ]
+-- how many bytes at the front are blanks, or are none
+abbrev pub run : Bool → List ℕ → ℕ
+run v bs = prefix_len (alike v) bs
 
 -- blanks in front do not count
 past_by : (t : Bool) (b : ℕ) (bs : List ℕ) → eqb b 32 ≡ t → words bs ≡ words (drop (run true bs) bs) →
     words (b ∷ bs) ≡ words (drop (run true (b ∷ bs)) (b ∷ bs))
-past_by true b bs e ih = rw e ih
+past_by true b bs e ih = rw (e, one-add) ih
 past_by false b bs e ih = rw (e, e) refl
 
 pub words_past : (xs : List ℕ) → words xs ≡ words (drop (run true xs) xs)
@@ -42,8 +23,8 @@ words_past (b ∷ bs) = past_by (eqb b 32) b bs refl (words_past bs)
 begin_by : (t : Bool) (b : ℕ) (bs : List ℕ) → eqb b 32 ≡ t →
     (0 < length (drop (run true bs) bs) → 0 < run false (drop (run true bs) bs)) →
     0 < length (drop (run true (b ∷ bs)) (b ∷ bs)) → 0 < run false (drop (run true (b ∷ bs)) (b ∷ bs))
-begin_by true b bs e ih = rw e ih
-begin_by false b bs e ih = rw (e, e) (λ _. omega arith)
+begin_by true b bs e ih = rw (e, one-add) ih
+begin_by false b bs e ih = rw (e, e, one-add) (λ _. omega arith)
 
 begins : (xs : List ℕ) → 0 < length (drop (run true xs) xs) → 0 < run false (drop (run true xs) xs)
 begins [] h = h
@@ -62,7 +43,7 @@ first_by : (t : Bool) (b : ℕ) (bs : List ℕ) → eqb b 32 ≡ t →
     pieces bs ≡ take (run false bs) bs ∷ after (pieces (drop (run false bs) bs)) →
     pieces (b ∷ bs) ≡ take (run false (b ∷ bs)) (b ∷ bs) ∷ after (pieces (drop (run false (b ∷ bs)) (b ∷ bs)))
 first_by true b bs e ih = rw (e, e) refl
-first_by false b bs e ih = rw e (ap (onto b) ih)
+first_by false b bs e ih = rw (e, one-add) (ap (onto b) ih)
 
 first_piece : (xs : List ℕ) → pieces xs ≡ take (run false xs) xs ∷ after (pieces (drop (run false xs) xs))
 first_piece [] = refl
@@ -72,7 +53,7 @@ first_piece (b ∷ bs) = first_by (eqb b 32) b bs refl (first_piece bs)
 bare_by : (t : Bool) (b : ℕ) (bs : List ℕ) → eqb b 32 ≡ t → run false (drop (run false bs) bs) ≡ 0 →
     run false (drop (run false (b ∷ bs)) (b ∷ bs)) ≡ 0
 bare_by true b bs e ih = rw (e, e) refl
-bare_by false b bs e ih = rw e ih
+bare_by false b bs e ih = rw (e, one-add) ih
 
 bare : (xs : List ℕ) → run false (drop (run false xs) xs) ≡ 0
 bare [] = refl
@@ -97,7 +78,7 @@ filled_first (b ∷ w) ps h = refl
 first_word : (xs : List ℕ) → 0 < run false xs → words xs ≡ take (run false xs) xs ∷ words (drop (run false xs) xs)
 first_word xs h =
     let k = run false xs in
-    let l : length (take k xs) ≡ k = length-take-le k xs (run_within false xs) in
+    let l : length (take k xs) ≡ k = length-take-le k xs (prefix_len-le-length (alike false) xs) in
     ap filled (first_piece xs) ∙ filled_first (take k xs) (after (pieces (drop k xs))) (omega (arith, l))
     ∙ ap (λ ws. take k xs ∷ ws) (sym (rest_words (drop k xs) (bare xs)))
 
@@ -108,8 +89,3 @@ split_first xs ys w rest k e h n f g =
     ∙ (let p : take (run false ys) ys ≡ w = ap (λ j. take j ys) (sym n) ∙ sym f in
     let q : drop (run false ys) ys ≡ rest = ap (λ j. drop j ys) (sym n) ∙ sym g in
     rw (p, q) refl)
-
--- a line with nothing in it has no line feed
-pub feedless_none : (xs : List ℕ) → length xs ≡ 0 → xs ≡ feedless xs
-feedless_none [] h = refl
-feedless_none (b ∷ bs) h = absurd (omega arith)

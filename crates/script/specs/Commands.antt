@@ -3,7 +3,7 @@ use Rattle.std.specs.Prelude.{ℕ, cond, ◌&&◌, List, [], ◌∷◌, Some, No
 use Rattle.script.specs.declared.commands.Command.{Command}
 use Rattle.script.specs.declared.commands.Command.TheVariants.{Make, Cells, Tray, Process, Store, Save, Check}
 use Rattle.script.specs.Calls.{ended, last, lone_number, named_call}
-use Rattle.std.specs.Option.{option_map}
+use Rattle.std.specs.Option.{option_map, option_or}
 use Rattle.std.specs.Str.{bytes_eq}
 
 -- a command with another thing in place of its path
@@ -31,12 +31,7 @@ named_view w ws =
     (cond (bytes_eq w (codes "save")) (option_map Save (lone_word ws))
     (cond (bytes_eq w (codes "check")) (option_map Check (lone_word ws)) None)))))
 
--- the first of two that is there
-abbrev pub or_else : {X : Type 0} → Option X → Option X → Option X
-or_else None other = other
-or_else (Some x) other = Some x
-
 -- a call, or something else
 abbrev pub command : List (List ℕ) → Option (Command (List ℕ))
 command [] = None
-command (w ∷ ws) = or_else (option_map Make (named_call w ws)) (named_view w ws)
+command (w ∷ ws) = option_or (option_map Make (named_call w ws)) (named_view w ws)

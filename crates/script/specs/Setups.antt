@@ -4,10 +4,10 @@ use Rattle.script.specs.declared.setup.RuleLine.{RuleLine}
 use Rattle.script.specs.declared.setup.RuleLine.TheVariants.{Majority, Weights, Grid}
 use Rattle.script.specs.declared.setup.StoreLine.{StoreLine}
 use Rattle.script.specs.declared.setup.StoreLine.TheVariants.{Table, Fresh, Saved}
-use Rattle.script.specs.Calls.{ended, going_on, last, lone_number}
+use Rattle.script.specs.Calls.{ended, last, lone_number}
 use Rattle.script.specs.Rows.{beyond, entries, row_of}
 use Rattle.script.specs.Words.{number}
-use Rattle.std.specs.Option.{option_map}
+use Rattle.std.specs.Option.{option_and_then, option_map}
 use Rattle.std.specs.Str.{bytes_eq}
 
 -- the words after a name
@@ -29,7 +29,7 @@ kind_of_rule (w ∷ ws) =
 
 -- the rule that a line is
 abbrev pub rule : List (List ℕ) → Option RuleLine
-rule ws = going_on (after_name (codes "rule") ws) kind_of_rule
+rule ws = option_and_then kind_of_rule (after_name (codes "rule") ws)
 
 -- a line with another thing in place of its path
 abbrev pub with_saved : {P Q : Type 0} → (P → Q) → StoreLine P → StoreLine Q
@@ -51,8 +51,8 @@ kind_of_store (w ∷ ws) =
 
 -- the store that a line is
 abbrev pub store : List (List ℕ) → Option (StoreLine (List ℕ))
-store ws = going_on (after_name (codes "store") ws) kind_of_store
+store ws = option_and_then kind_of_store (after_name (codes "store") ws)
 
 -- the places of a tray that a line is
 abbrev pub places : List (List ℕ) → Option ℕ
-places ws = going_on (after_name (codes "tray") ws) lone_number
+places ws = option_and_then lone_number (after_name (codes "tray") ws)

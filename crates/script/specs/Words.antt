@@ -1,5 +1,5 @@
 -- The words of a line, and the numbers among them.
-use Rattle.std.specs.Prelude.{ℕ, suc, ◌+◌, ◌-◌, ◌*◌, ◌^◌, Bool, true, false, cond, not, ◌&&◌, List, [], ◌∷◌, length, take, Some, None, Option, ◌==◌, nat_lt, slice_index}
+use Rattle.std.specs.Prelude.{ℕ, ◌+◌, ◌-◌, ◌*◌, ◌^◌, Bool, true, false, cond, not, ◌&&◌, List, [], ◌∷◌, length, take, Some, None, Option, ◌==◌, nat_lt, slice_index}
 use Rattle.std.specs.Str.{all_ascii_digits}
 
 -- a line without the line feed at its end
@@ -35,11 +35,6 @@ words bs = filled (pieces bs)
 abbrev pub alike : Bool → ℕ → Bool
 alike true b = b == 32
 alike false b = not (b == 32)
-
--- how many bytes at the front are blanks, or are none
-abbrev pub run : Bool → List ℕ → ℕ
-run v [] = 0
-run v (b ∷ bs) = cond (alike v b) (suc (run v bs)) 0
 
 -- the number so far, with the figures that follow
 abbrev pub read_on : ℕ → List ℕ → ℕ

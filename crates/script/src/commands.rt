@@ -4,13 +4,16 @@ ghost use Rattle.script.specs.Commands.{command, lone_word, named_view, with_pat
 ghost use Rattle.script.specs.Words.{words};
 ghost use Rattle.std.specs.Option.{option_map};
 
-use super::calls::{Call, is_end, read_call, read_lone};
-use super::words::{is_word, next_word};
+use super::calls::{is_end, read_call, read_lone};
+use super::row::Row;
+use super::words::next_word;
+use agreement::call::Call;
+use std::str::from_utf8;
 
 // A call to make, or something to show, to save or to check; a path is of type P.
-#[derive(Clone, Copy)]
+#[derive(Clone, Copy, PartialEq, Eq, Debug)]
 pub enum Command<P> {
-    Make(Call),
+    Make(Call<Row<Option<u32>>>),
     Cells,
     Tray,
     Process(u32),
@@ -23,46 +26,32 @@ pub enum Command<P> {
 fn read_word(line: &[u8]) -> Option<&[u8]>
     ensures { option_map (λ x. x.now) result ≡ lone_word (words line.now) }
 {
-    let Some((word, rest)) = next_word(line) else {
-        return None;
-    };
-    if is_end(rest) { Some(word) } else { None }
+    let (word, rest) = next_word(line)?;
+    is_end(rest).then_some(word)
 }
 
 // What is to be shown, saved or checked, by a name and what follows it.
-fn read_view<'a>(name: &[u8], line: &'a [u8]) -> Option<Command<&'a [u8]>>
+fn read_view<'a>(name: &str, line: &'a [u8]) -> Option<Command<&'a [u8]>>
     ensures { option_map (with_path (λ x. x.now)) result ≡ named_view name.now (words line.now) }
 {
-    if is_word(name, "cells") && is_end(line) {
-        return Some(Command::Cells);
+    match name {
+        "cells" => is_end(line).then_some(Command::Cells),
+        "tray" => is_end(line).then_some(Command::Tray),
+        "process" => Some(Command::Process(read_lone(line)?)),
+        "store" => is_end(line).then_some(Command::Store),
+        "save" => Some(Command::Save(read_word(line)?)),
+        "check" => Some(Command::Check(read_word(line)?)),
+        _ => None,
     }
-    if is_word(name, "tray") && is_end(line) {
-        return Some(Command::Tray);
-    }
-    if is_word(name, "process") {
-        return Some(Command::Process(read_lone(line)?));
-    }
-    if is_word(name, "store") && is_end(line) {
-        return Some(Command::Store);
-    }
-    if is_word(name, "save") {
-        return Some(Command::Save(read_word(line)?));
-    }
-    if is_word(name, "check") {
-        return Some(Command::Check(read_word(line)?));
-    }
-    None
 }
 
 // The command that a line is.
 pub fn read_command(line: &[u8]) -> Option<Command<&[u8]>>
     ensures { option_map (with_path (λ x. x.now)) result ≡ command (words line.now) }
 {
-    let Some((name, rest)) = next_word(line) else {
-        return None;
-    };
-    match read_call(name, rest) {
-        Some(call) => Some(Command::Make(call)),
-        None => read_view(name, rest),
-    }
+    let (name, rest) = next_word(line)?;
+    let name = from_utf8(name).ok()?;
+    read_call(name, rest)
+        .map(|call| Command::Make(call))
+        .or_else(|| read_view(name, rest))
 }

@@ -10,10 +10,10 @@ pub mod words;
 
 #[cfg(test)]
 mod tests {
-    use super::calls::Call;
     use super::commands::{Command, read_command};
     use super::setup::{RuleLine, read_places, read_rule};
     use super::words::read_number;
+    use agreement::call::Call;
 
     #[test]
     fn numbers(rt: HostRuntime) {
@@ -32,53 +32,52 @@ mod tests {
         }
     }
 
-    // What a line asks for, by a number; how many entries its list has; and its cut.
-    fn asked(line: &str) -> (u32, usize, Option<u32>) {
-        match read_command(line.as_bytes()) {
-            None => (0, 0, None),
-            Some(Command::Make(call)) => match call {
-                Call::Recover(_, cut) => (1, 0, cut),
-                Call::Propose(_, _, cut) => (2, 0, cut),
-                Call::Look(_, row, cut) => (3, row.as_slice().len(), cut),
-                Call::Deliver(_, cut) => (4, 0, cut),
-                Call::Again(_, cut) => (5, 0, cut),
-                Call::Lose(_) => (6, 0, None),
-                Call::Crash(_) => (7, 0, None),
-            },
-            Some(_) => (8, 0, None),
-        }
-    }
-
     #[test]
     fn lines_and_what_they_ask_for(rt: HostRuntime) {
-        for (line, told) in [
-            ("recover 1", (1, 0, None)),
-            ("  recover   1 cut 3 ", (1, 0, Some(3))),
-            ("recover 1 cut", (0, 0, None)),
-            ("recover 1 cut 3 4", (0, 0, None)),
-            ("recover", (0, 0, None)),
-            ("propose 1 407 cut 0", (2, 0, Some(0))),
-            ("propose 1", (0, 0, None)),
-            ("look 1", (3, 0, None)),
-            ("look 1 - 4 -", (3, 3, None)),
-            ("look 1 - cut 2", (3, 1, Some(2))),
-            ("look 1 1 2 3 4 5 6 7 8 9 10 11 12", (3, 10, None)),
-            ("look 1 1 2 3 4 5 6 7 8 9 10 11 x", (0, 0, None)),
-            ("lose 1 cut 2", (0, 0, None)),
-            ("lose 1", (6, 0, None)),
-            ("Crash 1", (0, 0, None)),
-            ("cells", (8, 0, None)),
-            ("cells 1", (0, 0, None)),
-            ("save a b", (0, 0, None)),
-            ("save a", (8, 0, None)),
-            ("\tcells", (0, 0, None)),
-            ("   ", (0, 0, None)),
-        ] {
-            assert_eq!(rt; (line, asked(line)), (line, told));
+        let ten = [1, 2, 3, 4, 5, 6, 7, 8, 9, 10].map(Some);
+        let calls: [(&str, Call<&[Option<u32>]>); 8] = [
+            ("recover 1", Call::Recover(1, None)),
+            ("  recover   1 cut 3 ", Call::Recover(1, Some(3))),
+            ("propose 1 407 cut 0", Call::Propose(1, 407, Some(0))),
+            ("look 1", Call::Look(1, &[], None)),
+            ("look 1 - 4 -", Call::Look(1, &[None, Some(4), None], None)),
+            ("look 1 - cut 2", Call::Look(1, &[None], Some(2))),
+            (
+                "look 1 1 2 3 4 5 6 7 8 9 10 11 12",
+                Call::Look(1, &ten, None),
+            ),
+            ("lose 1", Call::Lose(1)),
+        ];
+        for (line, told) in calls {
+            let command = read_command(line.as_bytes());
+            let Some(Command::Make(call)) = command else {
+                panic!(rt; "{line} asks for no call");
+            };
+            assert_eq!(rt; (line, call.lent()), (line, told));
         }
+        for line in [
+            "recover 1 cut",
+            "recover 1 cut 3 4",
+            "recover",
+            "propose 1",
+            "look 1 1 2 3 4 5 6 7 8 9 10 11 x",
+            "lose 1 cut 2",
+            "Crash 1",
+            "cells 1",
+            "save a b",
+            "\tcells",
+            "   ",
+        ] {
+            assert_eq!(rt; (line, read_command(line.as_bytes())), (line, None));
+        }
+        assert_eq!(rt; read_command(b"cells"), Some(Command::Cells));
+        assert_eq!(rt;
+            read_command(b"save a"),
+            Some(Command::Save(b"a".as_slice()))
+        );
         assert_eq!(rt; read_places(b"tray 12"), Some(12));
         assert_eq!(rt; read_places(b"tray"), None);
-        assert!(rt; matches!(read_rule(b"rule majority 5"), Some(RuleLine::Majority(5))));
-        assert!(rt; read_rule(b"rule weights 1 x").is_none());
+        assert_eq!(rt; read_rule(b"rule majority 5"), Some(RuleLine::Majority(5)));
+        assert_eq!(rt; read_rule(b"rule weights 1 x"), None);
     }
 }

@@ -4,10 +4,12 @@ ghost use Rattle.script.specs.Calls.{epoch};
 ghost use Rattle.script.specs.Rows.{beyond, entries, listed, row_of};
 ghost use Rattle.script.specs.Words.{number, words};
 
-use super::words::{is_word, next_word, read_number};
+use super::words::{next_word, read_number};
+use std::convert::AsSlice;
 
-// The first ten entries of a list, since one of more is as wrong as one of ten.
-#[derive(Clone, Copy)]
+// The first ten entries of a list, since one of more is as wrong as one of ten. An array with a count, since a
+// row is copied and takes no heap; no plan of actions, which must have room, while a row drops what is beyond ten.
+#[derive(Clone, Copy, PartialEq, Eq, Debug)]
 pub struct Row<E> {
     items: [E; 10],
     count: usize,
@@ -24,6 +26,7 @@ pub trait Entry: Copy {
     fn read(word: &[u8]) -> Option<Self>
         ensures { result ≡ reads word.now };
 
+    // Not `Default`, whose contract names no value.
     fn empty() -> Self
         ensures { result ≡ free };
 }
@@ -50,12 +53,9 @@ impl Entry for Option<u32> {
     ghost free = { None };
 
     fn read(word: &[u8]) -> Option<Option<u32>> {
-        if is_word(word, "-") {
-            return Some(None);
-        }
-        match read_number(word) {
-            Some(n) => Some(Some(n)),
-            None => None,
+        match word {
+            b"-" => Some(None),
+            _ => read_number(word).map(Some),
         }
     }
 
@@ -86,12 +86,20 @@ impl<E: Entry> Row<E> {
         }
     }
 
-    // The entries.
+    // The entries. At most ten by `min`, and not by a fact of the row, which its definition would then owe as well.
     pub fn as_slice(&self) -> &[E]
         ensures { result.now ≡ listed self.now }
     {
-        let items = &self.items[..];
-        &items[0..self.count.min(10)]
+        &self.items[..self.count.min(10)]
+    }
+}
+
+// A row is lent as its entries.
+impl<E: Entry> AsSlice<E> for Row<E> {
+    ghost items = { listed };
+
+    fn as_slice(&self) -> &[E] {
+        self.as_slice()
     }
 }
 
@@ -102,14 +110,11 @@ pub(crate) fn read_row<E: Entry>(line: &[u8]) -> (Row<E>, &[u8])
 {
     let mut row = Row::new();
     let mut rest = line;
-    loop {
-        let Some((word, after)) = next_word(rest) else {
-            return (row, rest);
-        };
-        let Some(entry) = E::read(word) else {
-            return (row, rest);
-        };
+    while let Some((word, after)) = next_word(rest)
+        && let Some(entry) = E::read(word)
+    {
         row.push(entry);
         rest = after;
     }
+    (row, rest)
 }

@@ -6,10 +6,10 @@ ghost use Rattle.std.specs.Option.{option_map};
 
 use super::calls::{is_end, read_lone};
 use super::row::{Row, read_row};
-use super::words::{is_word, next_word};
+use super::words::next_word;
 
 // A quorum rule, by its size or its weights.
-#[derive(Clone, Copy)]
+#[derive(Clone, Copy, PartialEq, Eq, Debug)]
 pub enum RuleLine {
     Majority(u32),
     Weights(Row<u32>),
@@ -17,7 +17,7 @@ pub enum RuleLine {
 }
 
 // A store: a table in memory, a printed one with nothing in it, or one over a file; a path is of type P.
-#[derive(Clone, Copy)]
+#[derive(Clone, Copy, PartialEq, Eq, Debug)]
 pub enum StoreLine<P> {
     Table,
     Fresh,
@@ -28,14 +28,8 @@ pub enum StoreLine<P> {
 fn read_after<'a>(name: &str, line: &'a [u8]) -> Option<&'a [u8]>
     ensures { option_map (λ x. words x.now) result ≡ after_name name.now (words line.now) }
 {
-    let Some((word, rest)) = next_word(line) else {
-        return None;
-    };
-    if is_word(word, name) {
-        Some(rest)
-    } else {
-        None
-    }
+    let (word, rest) = next_word(line)?;
+    (word == name.as_bytes()).then_some(rest)
 }
 
 // A rule by weights.
@@ -43,30 +37,20 @@ fn read_weights(line: &[u8]) -> Option<RuleLine>
     ensures { result ≡ weights (words line.now) }
 {
     let (row, rest) = read_row(line);
-    if is_end(rest) {
-        Some(RuleLine::Weights(row))
-    } else {
-        None
-    }
+    is_end(rest).then_some(RuleLine::Weights(row))
 }
 
 // A rule, by its kind.
 fn read_kind_of_rule(line: &[u8]) -> Option<RuleLine>
     ensures { result ≡ kind_of_rule (words line.now) }
 {
-    let Some((word, rest)) = next_word(line) else {
-        return None;
-    };
-    if is_word(word, "majority") {
-        return Some(RuleLine::Majority(read_lone(rest)?));
+    let (word, rest) = next_word(line)?;
+    match word {
+        b"majority" => read_lone(rest).map(RuleLine::Majority),
+        b"weights" => read_weights(rest),
+        b"grid" => is_end(rest).then_some(RuleLine::Grid),
+        _ => None,
     }
-    if is_word(word, "weights") {
-        return read_weights(rest);
-    }
-    if is_word(word, "grid") && is_end(rest) {
-        return Some(RuleLine::Grid);
-    }
-    None
 }
 
 // The rule that a line is.
@@ -83,27 +67,19 @@ fn read_printed(line: &[u8]) -> Option<StoreLine<&[u8]>>
     let Some((path, rest)) = next_word(line) else {
         return Some(StoreLine::Fresh);
     };
-    if is_end(rest) {
-        Some(StoreLine::Saved(path))
-    } else {
-        None
-    }
+    is_end(rest).then_some(StoreLine::Saved(path))
 }
 
 // A store, by its kind.
 fn read_kind_of_store(line: &[u8]) -> Option<StoreLine<&[u8]>>
     ensures { option_map (with_saved (λ x. x.now)) result ≡ kind_of_store (words line.now) }
 {
-    let Some((word, rest)) = next_word(line) else {
-        return None;
-    };
-    if is_word(word, "table") && is_end(rest) {
-        return Some(StoreLine::Table);
+    let (word, rest) = next_word(line)?;
+    match word {
+        b"table" => is_end(rest).then_some(StoreLine::Table),
+        b"printed" => read_printed(rest),
+        _ => None,
     }
-    if is_word(word, "printed") {
-        return read_printed(rest);
-    }
-    None
 }
 
 // The store that a line is.

@@ -1,13 +1,18 @@
 -- The parts of a coordinator's first round, joined.
-use Rattle.std.proofs.Common.{◌≡◌, ℕ, true, cond, ◌&&◌, leb, List, [], ◌∷◌, Some, None, sym, ap, ◌∙◌}
+use Rattle.std.proofs.Common.{rules, ◌≡◌, ℕ, true, cond, ◌&&◌, leb, List, [], ◌∷◌, Some, None, sym, ap, ◌∙◌}
 use Rattle.std.proofs.lemmas.Bool.{and_parts, cond-true}
 use Rattle.process.specs.declared.message.Kind.TheVariants.{Estimate, Ack}
 use Rattle.process.specs.declared.message.Message.{Message}
+use Rattle.process.specs.declared.memory.OwnCells.{OwnCells}
 use Rattle.process.specs.Meetings.{deliver}
 use Rattle.process.specs.Messages.{is_reading, well_formed}
 use Rattle.process.specs.Rounds.{Step, propose, recover, still}
 use Rattle.quorum.specs.Rules.{majority}
 use Rattle.settle.specs.Leader.{bare, led, told}
+
+-- cells with nothing in any of them
+pub bare_from : (cells : OwnCells) → (cells.proposal ≡ None) × ((cells.round ≡ None) × ((cells.pair ≡ None) × (cells.decision ≡ None))) → cells ≡ bare
+bare_from cells (p, (r, (s, d))) = search rules
 
 pub led_from : (n p own other : ℕ) (m₁ m₂ : Message) (idle proposed chosen decided : Step) → n ≡ 3 → p ≡ 2 → m₁ ≡ told Estimate other → m₂ ≡ told Ack 0
     → idle ≡ recover n p (majority n) bare → proposed ≡ propose n p (majority n) own (still idle.memory)

@@ -1,12 +1,14 @@
 -- A coordinator through its first round.
-use Rattle.std.specs.Prelude.{ℕ, cond, List, [], ◌∷◌, None, codes, ◌==◌}
+use Rattle.std.specs.Prelude.{ℕ, List, [], ◌∷◌, None, codes}
 use Rattle.process.specs.declared.message.Kind.{Kind}
-use Rattle.process.specs.declared.message.Kind.TheVariants.{NewRound, Estimate, NewEstimate, Ack, Decide}
+use Rattle.process.specs.declared.message.Kind.TheVariants.{Estimate as AnEstimate, Ack as AnAck}
 use Rattle.process.specs.declared.message.Message.{Message}
 use Rattle.process.specs.declared.memory.OwnCells.{OwnCells}
 use Rattle.process.specs.Meetings.{deliver}
 use Rattle.process.specs.Rounds.{Step, propose, recover, still}
 use Rattle.quorum.specs.Rules.{majority}
+use Rattle.settle.specs.declared.leader.Part.{Part}
+use Rattle.settle.specs.declared.leader.Part.TheVariants.{Proposal, Estimate, Ack}
 
 -- a message of process 1 to process 2 in round 1
 abbrev pub told : Kind → ℕ → Message
@@ -22,21 +24,15 @@ proposed own = propose 3 2 (majority 3) own (still (recover 3 2 (majority 3) bar
 
 -- it is given an estimate
 abbrev gathered : ℕ → ℕ → Step
-gathered own other = deliver 3 2 (majority 3) None (told Estimate other) (still (proposed own).memory)
+gathered own other = deliver 3 2 (majority 3) None (told AnEstimate other) (still (proposed own).memory)
 
 -- and an ACK
 abbrev pub led : ℕ → ℕ → List Step
 led own other =
-    proposed own ∷ gathered own other ∷ deliver 3 2 (majority 3) None (told Ack 0) (still (gathered own other).memory) ∷ []
-
--- the name of a kind
-abbrev pub spelled : Kind → List ℕ
-spelled NewRound = codes "NEWROUND"
-spelled Estimate = codes "ESTIMATE"
-spelled NewEstimate = codes "NEWESTIMATE"
-spelled Ack = codes "ACK"
-spelled Decide = codes "DECIDE"
+    proposed own ∷ gathered own other ∷ deliver 3 2 (majority 3) None (told AnAck 0) (still (gathered own other).memory) ∷ []
 
 -- what happens in a part of the round
-abbrev pub said : ℕ → List ℕ
-said part = cond (part == 0) (codes "proposes") (cond (part == 1) (codes "is given an estimate") (codes "is given an ACK"))
+abbrev pub said : Part → List ℕ
+said Proposal = codes "proposes"
+said Estimate = codes "is given an estimate"
+said Ack = codes "is given an ACK"

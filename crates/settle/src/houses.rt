@@ -9,8 +9,9 @@ use quorum::grid::Grid;
 use quorum::majority::Majority;
 use quorum::weights::Weights;
 use quorum::{CannotBeMade, ProcessSet, QuorumRule};
-use store::Store;
-use store::content::{PAIR, PROPOSAL};
+use std::array::from_fn;
+use store::content::CellName;
+use store::{Store, held};
 use tray::Tray;
 use tray::choice::best_of_tray;
 use tray::kinds::Estimate;
@@ -27,18 +28,12 @@ pub struct Verdicts {
 pub fn estimate_of<S: Store>(store: &S, house: u32) -> Option<Estimate>
     ensures { result ≡ estimate (S.Store.cells store.now) house }
 {
-    let held = match store.read(house, PAIR) {
-        Ok(Some(pair)) => pair,
-        Ok(None) => match store.read(house, PROPOSAL) {
-            Ok(Some(proposal)) => proposal,
-            _ => return None,
-        },
-        Err(_) => return None,
-    };
+    let pair = held(store, house, CellName::Pair.number());
+    let offer = pair.or_else(|| held(store, house, CellName::Proposal.number()))?;
     Some(Estimate {
         sender: house,
-        reading: held.number,
-        stamp: held.stamp,
+        reading: offer.number,
+        stamp: offer.stamp,
     })
 }
 
@@ -46,14 +41,10 @@ pub fn estimate_of<S: Store>(store: &S, house: u32) -> Option<Estimate>
 pub fn best_offer<S: Store>(store: &S) -> Option<Estimate>
     ensures { Chosen prefers_estimate (offers (S.Store.cells store.now) 9) result }
 {
-    let mut slots = [Estimate {
-        sender: 0,
-        reading: 0,
-        stamp: 0,
-    }; 9];
+    let mut slots = [Estimate::default(); 9];
     let mut tray = Tray::new(&mut slots);
-    for i in 0..9u32 {
-        if let Some(offer) = estimate_of(store, i + 1) {
+    for house in 1..=9 {
+        if let Some(offer) = estimate_of(store, house) {
             let _ = tray.put(offer);
         }
     }
@@ -64,19 +55,14 @@ pub fn best_offer<S: Store>(store: &S) -> Option<Estimate>
 pub fn has_proposal<S: Store>(store: &S, house: u32) -> bool
     ensures { result ≡ proposes (S.Store.cells store.now) house }
 {
-    let held = store.read(house, PROPOSAL);
-    matches!(held, Ok(Some(_)))
+    held(store, house, CellName::Proposal.number()).is_some()
 }
 
 // The houses that have a proposal.
 pub fn proposers<S: Store>(store: &S) -> ProcessSet
     ensures { result ≡ proposing (S.Store.cells store.now) 9 }
 {
-    let mut set = [false; 9];
-    for i in 0..9u32 {
-        set[i as usize] = has_proposal(store, i + 1);
-    }
-    set
+    from_fn(|i| has_proposal(store, i as u32 + 1))
 }
 
 // Whether a set is enough by the majority of five, by the weights 3, 1, 1, 1 and 1, and by the grid.
@@ -92,7 +78,7 @@ pub fn ask_rules(set: &ProcessSet) -> Result<Verdicts, CannotBeMade>
     })
 }
 
-// How a rule's answer is said.
+// How a rule's answer is said; a type that prints itself would be no plainer for two words.
 pub fn word(enough: bool) -> &'static str
     ensures { result.now ≡ (if enough then codes "enough" else codes "not yet") }
 {

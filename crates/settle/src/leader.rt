@@ -2,7 +2,7 @@
 ghost use Rattle.std.specs.Prelude.{◌≡◌, map, if◌then◌else◌, Some, None};
 ghost use Rattle.process.specs.Messages.{is_reading};
 ghost use Rattle.process.specs.Turns.{step};
-ghost use Rattle.settle.specs.Leader.{led, said, spelled, told};
+ghost use Rattle.settle.specs.Leader.{led, said, told};
 ghost use Rattle.std.specs.Option.{option_map};
 
 use process::identity::{Letter, ProcessId};
@@ -11,28 +11,18 @@ use process::message::{Kind, Message};
 use process::turn::Turn;
 use process::turn::steps::{deliver_turn, propose_turn, recover_turn};
 use quorum::majority::Majority;
+use std::fmt;
 
 // Process 2 of three, the coordinator of round 1, recovers with nothing in its cells and proposes `own`;
 // then process 1 sends it `other` as its estimate, and an ACK. None where `other` is no reading.
 pub fn lead_round(own: u32, other: u32) -> Option<[Turn; 3]>
     ensures { option_map (map step) result ≡ (if is_reading other then Some (led own other) else None) }
 {
-    let Ok(rule) = Majority::new(3) else {
-        return None;
-    };
+    let rule = Majority::new(3).ok()?;
     let p = ProcessId::new(&rule, 2)?;
     let estimate = Letter::new(&rule, to_coordinator(Kind::Estimate, other))?;
     let ack = Letter::new(&rule, to_coordinator(Kind::Ack, 0))?;
-    let idle = recover_turn(
-        &rule,
-        p,
-        OwnCells {
-            proposal: None,
-            round: None,
-            pair: None,
-            decision: None,
-        },
-    );
+    let idle = recover_turn(&rule, p, OwnCells::default());
     let proposed = propose_turn(&rule, p, idle.memory, own);
     let chosen = deliver_turn(&rule, proposed.memory, estimate, None);
     let decided = deliver_turn(&rule, chosen.memory, ack, None);
@@ -53,26 +43,26 @@ fn to_coordinator(kind: Kind, reading: u32) -> Message
     }
 }
 
-// The name of a kind.
-pub fn kind_word(kind: Kind) -> &'static str
-    ensures { result.now ≡ spelled kind }
-{
-    match kind {
-        Kind::NewRound => "NEWROUND",
-        Kind::Estimate => "ESTIMATE",
-        Kind::NewEstimate => "NEWESTIMATE",
-        Kind::Ack => "ACK",
-        Kind::Decide => "DECIDE",
-    }
+// A part of the round.
+#[derive(Clone, Copy, PartialEq, Eq, Debug)]
+pub enum Part {
+    Proposal,
+    Estimate,
+    Ack,
 }
 
-// What happens in a part of the round, counted from 0.
-pub fn part_word(part: usize) -> &'static str
-    ensures { result.now ≡ said part }
-{
-    match part {
-        0 => "proposes",
-        1 => "is given an estimate",
-        _ => "is given an ACK",
+// The parts in order, beside the turns and not in them: what a turn is has a promise of its own.
+pub const PARTS: [Part; 3] = [Part::Proposal, Part::Estimate, Part::Ack];
+
+// What happens in a part.
+impl fmt::Display for Part {
+    ghost output = { λ part. Some (said part) };
+
+    fn fmt<W: fmt::Write>(&self, f: &mut fmt::Formatter<W>) -> fmt::Result {
+        match self {
+            Part::Proposal => write!(f, "proposes"),
+            Part::Estimate => write!(f, "is given an estimate"),
+            Part::Ack => write!(f, "is given an ACK"),
+        }
     }
 }

@@ -5,7 +5,7 @@ mod houses;
 mod leader;
 
 use houses::{ask_rules, best_offer, estimate_of, proposers, word};
-use leader::{kind_word, lead_round, part_word};
+use leader::{PARTS, lead_round};
 use printed::inspect;
 use printed::printed_store::PrintedStore;
 use printed::printing::blank_text;
@@ -14,7 +14,7 @@ use process::message::Message;
 use std::io;
 use std::io::Write;
 use store::Store;
-use store::content::{Content, PAIR, PROPOSAL};
+use store::content::{CellName, Content, Refusal};
 use tray::kinds::Estimate;
 
 fn main(rt: HostRuntime) -> io::Result<()> {
@@ -22,20 +22,21 @@ fn main(rt: HostRuntime) -> io::Result<()> {
     {
         let mut store = PrintedStore::open(&mut text);
         for (house, cell, number, stamp) in [
-            (1, PROPOSAL, 407, 0),
-            (2, PROPOSAL, 512, 0),
-            (3, PROPOSAL, 407, 0),
-            (4, PROPOSAL, 88, 0),
-            (5, PROPOSAL, 512, 0),
-            (2, PAIR, 512, 3),
-            (4, PAIR, 88, 2),
-            (6, PROPOSAL, 0, 0),
-            (10, PROPOSAL, 407, 0),
+            (1, CellName::Proposal, 407, 0),
+            (2, CellName::Proposal, 512, 0),
+            (3, CellName::Proposal, 407, 0),
+            (4, CellName::Proposal, 88, 0),
+            (5, CellName::Proposal, 512, 0),
+            (2, CellName::Pair, 512, 3),
+            (4, CellName::Pair, 88, 2),
+            (6, CellName::Proposal, 0, 0),
+            (10, CellName::Proposal, 407, 0),
         ] {
-            let answer = match store.write(house, cell, Content { number, stamp }) {
-                Ok(()) => 0,
-                Err(refusal) => refusal.number(),
-            };
+            let cell = cell.number();
+            let answer = store
+                .write(house, cell, Content { number, stamp })
+                .err()
+                .map_or(0, Refusal::number);
             println!(rt; "house {house} writes {number} {stamp} into cell {cell}: {answer}")?;
             if let Ok(said) = ask_rules(&proposers(&store)) {
                 let majority = word(said.majority);
@@ -70,12 +71,12 @@ fn main(rt: HostRuntime) -> io::Result<()> {
     let Some(turns) = lead_round(407, 512) else {
         return Ok(());
     };
-    for (i, turn) in turns.iter().enumerate() {
-        let what = part_word(i);
-        println!(rt; "process 2 of three {what}:")?;
+    for (part, turn) in PARTS.iter().zip(&turns) {
+        println!(rt; "process 2 of three {part}:")?;
         for action in turn.plan.actions() {
             match *action {
                 Action::Write(cell, Content { number, stamp }) => {
+                    let cell = cell.number();
                     println!(rt; "  it writes {number} {stamp} into cell {cell}")?;
                 }
                 Action::Send(
@@ -87,7 +88,6 @@ fn main(rt: HostRuntime) -> io::Result<()> {
                         ..
                     },
                 ) => {
-                    let kind = kind_word(kind);
                     println!(rt; "  it sends {kind} {round} {reading} to process {addressee}")?;
                 }
             }

@@ -12,7 +12,7 @@ use agreement::call::{Call, told};
 use panel::panel::Panel;
 use printed::printed_store::PrintedStore;
 use printed::printing::blank_text;
-use process::message::{Kind, Message};
+use process::message::Message;
 use quorum::QuorumRule;
 use quorum::majority::Majority;
 use settled::settle;
@@ -20,7 +20,7 @@ use std::io;
 use std::io::Write;
 use store::Store;
 use tray::Tray;
-use words::{cut_of, name_of, reading_of, subject_of};
+use words::Told;
 
 // The sitting. House 2, the coordinator of round 1, writes its pair and fails before it tells anyone. It
 // recovers and tells all; one message is lost, others are delivered twice. House 1 has given house 2 up and
@@ -78,19 +78,10 @@ fn hold<S: Store + Drop, R: QuorumRule + Drop>(
     ];
     let mut answers = [Ok(0); 35];
     let settled = settle(&mut panel, &mut tray, &calls[..], &mut answers);
-    for i in 0..35 {
-        let call = &calls[i];
-        let name = name_of(call);
-        let subject = subject_of(call);
-        print!(rt; "{name} {subject}")?;
-        if let Some(reading) = reading_of(call) {
-            print!(rt; " {reading}")?;
-        }
-        if let Some(cut) = cut_of(call) {
-            print!(rt; " cut {cut}")?;
-        }
-        let (number, count) = told(answers[i]);
-        println!(rt; ": {number} {count}")?;
+    for (call, answer) in calls.iter().zip(&answers) {
+        let call = Told { call: *call };
+        let (number, count) = told(*answer);
+        println!(rt; "{call}: {number} {count}")?;
     }
     let (store, _) = panel.close();
     Ok((store, settled))
@@ -101,25 +92,14 @@ fn main(rt: HostRuntime) -> io::Result<()> {
         return Ok(());
     };
     let mut text = blank_text();
-    let mut slots = [Message {
-        sender: 0,
-        addressee: 0,
-        kind: Kind::NewRound,
-        round: 0,
-        reading: 0,
-        stamp: 0,
-    }; 64];
-    let settled = {
-        let mut store = PrintedStore::open(&mut text);
-        let (_, settled) = hold(
-            &rt,
-            &mut store,
-            rule,
-            &mut slots,
-            &[Some(0), None, Some(0), Some(0), Some(0)],
-        )?;
-        settled
-    };
+    let mut slots = [Message::default(); 64];
+    let (_, settled) = hold(
+        &rt,
+        PrintedStore::open(&mut text),
+        rule,
+        &mut slots,
+        &[Some(0), None, Some(0), Some(0), Some(0)],
+    )?;
     rt.stdout().write_all(&text)?;
     if let Some(reading) = settled {
         println!(rt; "settled: {reading}")?;

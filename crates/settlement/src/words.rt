@@ -1,59 +1,43 @@
 //! How a call is told.
-ghost use Rattle.std.specs.Prelude.{◌≡◌};
-ghost use Rattle.settlement.specs.Words.{cut_of, name, reading, subject};
+ghost use Rattle.std.specs.Prelude.{Some};
+ghost use Rattle.settlement.specs.Words.{call_text, cut_text};
 
-use agreement::call::Call;
+use agreement::call::{Call, PanelCall};
+use std::fmt;
 
-// The name of a call.
-pub fn name_of(call: &Call) -> &'static str
-    ensures { result.now ≡ name call.now }
-{
-    match call {
-        Call::Propose(..) => "propose",
-        Call::Recover(..) => "recover",
-        Call::Look(..) => "look",
-        Call::Deliver(..) => "deliver",
-        Call::Again(..) => "again",
-        Call::Lose(..) => "lose",
-        Call::Crash(..) => "crash",
+// A call: its name, its process or place, the reading of a proposal, and the cut if it has one.
+#[derive(Clone, Copy)]
+pub struct Told<'c> {
+    pub call: PanelCall<'c>,
+}
+
+// The cut of a call, after a blank.
+#[derive(Clone, Copy)]
+struct Cut(Option<u32>);
+
+impl fmt::Display for Cut {
+    ghost output = { λ cut. Some (cut_text cut.0) };
+
+    fn fmt<W: fmt::Write>(&self, f: &mut fmt::Formatter<W>) -> fmt::Result {
+        match self.0 {
+            None => Ok(()),
+            Some(k) => write!(f, " cut {k}"),
+        }
     }
 }
 
-// Its process or place.
-pub fn subject_of(call: &Call) -> usize
-    ensures { result ≡ subject call.now }
-{
-    match call {
-        Call::Propose(p, ..) => *p as usize,
-        Call::Recover(p, _) => *p as usize,
-        Call::Look(p, ..) => *p as usize,
-        Call::Deliver(place, _) => *place,
-        Call::Again(p, _) => *p as usize,
-        Call::Lose(place) => *place,
-        Call::Crash(p) => *p as usize,
-    }
-}
+impl fmt::Display for Told<'_> {
+    ghost output = { λ told. Some (call_text told.call) };
 
-// The reading of a proposal.
-pub fn reading_of(call: &Call) -> Option<u32>
-    ensures { result ≡ reading call.now }
-{
-    match call {
-        Call::Propose(_, reading, _) => Some(*reading),
-        _ => None,
-    }
-}
-
-// The cut of a call that takes one.
-pub fn cut_of(call: &Call) -> Option<u32>
-    ensures { result ≡ cut_of call.now }
-{
-    match call {
-        Call::Propose(_, _, cut) => *cut,
-        Call::Recover(_, cut) => *cut,
-        Call::Look(_, _, cut) => *cut,
-        Call::Deliver(_, cut) => *cut,
-        Call::Again(_, cut) => *cut,
-        Call::Lose(_) | Call::Crash(_) => None,
+    fn fmt<W: fmt::Write>(&self, f: &mut fmt::Formatter<W>) -> fmt::Result {
+        match self.call {
+            Call::Propose(p, reading, cut) => write!(f, "propose {p} {reading}{}", Cut(cut)),
+            Call::Recover(p, cut) => write!(f, "recover {p}{}", Cut(cut)),
+            Call::Look(p, _, cut) => write!(f, "look {p}{}", Cut(cut)),
+            Call::Deliver(place, cut) => write!(f, "deliver {place}{}", Cut(cut)),
+            Call::Again(p, cut) => write!(f, "again {p}{}", Cut(cut)),
+            Call::Lose(place) => write!(f, "lose {place}"),
+            Call::Crash(p) => write!(f, "crash {p}"),
+        }
     }
 }

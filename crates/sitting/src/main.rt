@@ -10,7 +10,6 @@ mod views;
 use listing::lines::{Answer, Note};
 use panel::panel::Panel;
 use play::play_all;
-use printed::inspect;
 use printed::printed_store::PrintedStore;
 use quorum::grid::Grid;
 use quorum::majority::Majority;
@@ -24,6 +23,9 @@ use std::io::{BufWriter, Write};
 use store::Store;
 use store::table::Table;
 use tray::Tray;
+
+// The script and the output stand apart in what follows, and not in one struct: a line of the one is borrowed while
+// the other is written.
 
 // A sitting over a store, from the line of its tray on.
 fn sit_over<S: Store + Drop, R: QuorumRule + Drop, W: Write>(
@@ -49,12 +51,13 @@ fn sit_over_text<R: QuorumRule + Drop, W: Write>(
     rule: R,
     out: &mut W,
 ) -> io::Result<()> {
-    if let Err(fault) = inspect(text) {
-        let note = Note::Fault(fault);
-        return writeln!(out, "{note}");
+    match PrintedStore::try_open(text) {
+        Ok(store) => sit_over(rt, script, store, rule, out),
+        Err(refused) => {
+            let note = Note::Fault(refused.fault);
+            writeln!(out, "{note}")
+        }
     }
-    let mut store = PrintedStore::open(text);
-    sit_over(rt, script, &mut store, rule, out)
 }
 
 // A sitting under a rule, from the line of its store on.
@@ -73,13 +76,23 @@ fn sit_under<R: QuorumRule + Drop, W: Write>(
     }
 }
 
-// Says that a rule cannot be made.
-fn refuse<W: Write>(refusal: CannotBeMade, out: &mut W) -> io::Result<()> {
-    let answer = Answer {
-        number: refusal.number(),
-        actions: 0,
-    };
-    writeln!(out, "{answer}")
+// A sitting under a rule that was made; else says that it cannot be.
+fn sit_if_made<R: QuorumRule + Drop, W: Write>(
+    rt: &HostRuntime,
+    script: &mut Script,
+    made: Result<R, CannotBeMade>,
+    out: &mut W,
+) -> io::Result<()> {
+    match made {
+        Ok(rule) => sit_under(rt, script, rule, out),
+        Err(refusal) => {
+            let answer = Answer {
+                number: refusal.number(),
+                actions: 0,
+            };
+            writeln!(out, "{answer}")
+        }
+    }
 }
 
 // A sitting, from its first line on.
@@ -87,14 +100,10 @@ fn sit<W: Write>(rt: &HostRuntime, out: &mut W) -> io::Result<()> {
     let mut script = Script::new(rt.alloc(), rt.stdin())?;
     match await_rule(&mut script, out)? {
         None => Ok(()),
-        Some(RuleLine::Majority(n)) => match Majority::new(n) {
-            Ok(rule) => sit_under(rt, &mut script, rule, out),
-            Err(refusal) => refuse(refusal, out),
-        },
-        Some(RuleLine::Weights(row)) => match Weights::new(row.as_slice()) {
-            Ok(rule) => sit_under(rt, &mut script, rule, out),
-            Err(refusal) => refuse(refusal, out),
-        },
+        Some(RuleLine::Majority(n)) => sit_if_made(rt, &mut script, Majority::new(n), out),
+        Some(RuleLine::Weights(row)) => {
+            sit_if_made(rt, &mut script, Weights::new(row.as_slice()), out)
+        }
         Some(RuleLine::Grid) => sit_under(rt, &mut script, Grid, out),
     }
 }

@@ -10,7 +10,7 @@ use super::files::{read_file, write_file};
 use super::reader::Script;
 use super::setup::unread;
 use super::views::{show_cells, show_tray};
-use agreement::call::{Refusal, told};
+use agreement::call::{Call, Refusal, told};
 use listing::lines::{Answer, Note};
 use listing::record::ProcessLine;
 use listing::stored::store_text;
@@ -18,8 +18,8 @@ use panel::panel::Panel;
 use printed::inspect;
 use process::message::Message;
 use quorum::QuorumRule;
-use script::calls::Call;
 use script::commands::{Command, read_command};
+use script::row::Row;
 use std::io;
 use std::io::Write;
 use store::Store;
@@ -29,19 +29,11 @@ use tray::Tray;
 fn make<S: Store, R: QuorumRule>(
     panel: &mut Panel<S, R>,
     tray: &mut Tray<Message>,
-    call: &Call,
+    call: &Call<Row<Option<u32>>>,
 ) -> Result<u32, Refusal>
-    ensures { outcome_in R.QuorumRule.processes R.QuorumRule.quorum S.Store.cells result panel.new tray.new ≡ done (judged call.now) (state_in R.QuorumRule.processes R.QuorumRule.quorum S.Store.cells panel.old tray.old) }
+    ensures { outcome_in R.QuorumRule S.Store result panel.new tray.new ≡ done (judged call.now) (state_in R.QuorumRule S.Store panel.old tray.old) }
 {
-    match call {
-        Call::Recover(p, cut) => panel.recover(tray, *p, *cut),
-        Call::Propose(p, reading, cut) => panel.propose(tray, *p, *reading, *cut),
-        Call::Look(p, row, cut) => panel.look(tray, *p, row.as_slice(), *cut),
-        Call::Deliver(place, cut) => panel.deliver(tray, *place as usize, *cut),
-        Call::Again(p, cut) => panel.again(tray, *p, *cut),
-        Call::Lose(place) => panel.lose(tray, *place as usize),
-        Call::Crash(p) => panel.crash(*p),
-    }
+    panel.call(tray, &call.lent())
 }
 
 // Does what a line asks for; false where it is not understood.

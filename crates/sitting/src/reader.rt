@@ -40,7 +40,8 @@ impl Script {
         Ok(0 < count)
     }
 
-    // Reads on to the next line that is neither empty nor a comment; false at the end of the input.
+    // Reads on to the next line that is neither empty nor a comment; false at the end of the input. An Option
+    // of a borrowed line in place of the flag was tried: after such a borrow nothing is known of the script.
     pub fn advance(&mut self) -> io::Result<bool>
         ensures played { IfOk result (λ more. more ≡ true → passed_over (text_of self.new) ≡ false) }
         ensures line { IfOk result (λ more. more ≡ true → IsOneLine self.new) }

@@ -11,10 +11,8 @@ use tray::Tray;
 pub fn show_cells<S: Store, W: Write>(store: &S, out: &mut W) -> io::Result<()> {
     let head = Note::CellCount(count_cells(store));
     writeln!(out, "{head}")?;
-    for k in 0..36 {
-        if let Some(line) = cell_line(store, k) {
-            writeln!(out, "{line}")?;
-        }
+    for line in (0..36).filter_map(|k| cell_line(store, k)) {
+        writeln!(out, "{line}")?;
     }
     Ok(())
 }

@@ -30,6 +30,10 @@ put cs p c v q d = cond (d == c && q == p) (Some v) (cs q d)
 abbrev pub read_answer : Cells → ℕ → ℕ → Result (Option Content) Refusal
 read_answer cs p c = cond (is_cell p c) (Ok (cs p c)) (Err NoSuchCell)
 
+-- what a cell holds, none where there is no such cell
+abbrev pub held : Cells → ℕ → ℕ → Option Content
+held cs p c = cond (is_cell p c) (cs p c) None
+
 -- what a write answers
 abbrev pub write_answer : ℕ → ℕ → Content → Result (Unit {0}) Refusal
 write_answer p c v = cond (is_cell p c) (cond (fits c v) (Ok tt) (Err OutOfRange)) (Err NoSuchCell)

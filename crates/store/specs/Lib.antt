@@ -1,3 +1,4 @@
+pub mod CellNames
 pub mod Cells
 pub mod Ranges
 pub mod Refused

@@ -1,20 +1,67 @@
 //! What a cell holds, what is in its range, and why a store refuses.
-ghost use Rattle.std.specs.Prelude.{◌≡◌, if◌then◌else◌, Ok, Err};
+ghost use Rattle.std.specs.Prelude.{◌≡◌, ◌+◌, ◌/◌, ◌%◌, if◌then◌else◌, Some, Ok, Err};
 ghost use Rattle.store.specs.Ranges.{is_cell, index, fits_number, fits_stamp, fits};
+ghost use Rattle.store.specs.CellNames.{cell_number, named, spelled};
 ghost use Rattle.store.specs.Refused.{number};
 ghost use Rattle.store.specs.declared.content.Refusal.TheVariants.{NoSuchCell};
 
-// The four cells of a process.
-pub const PROPOSAL: u32 = 1;
+use std::fmt;
 
-pub const ROUND: u32 = 2;
+// The four cells of a process, by their numbers.
+#[derive(Clone, Copy, PartialEq, Eq, Debug)]
+pub enum CellName {
+    Proposal = 1,
+    Round = 2,
+    Pair = 3,
+    Decision = 4,
+}
 
-pub const PAIR: u32 = 3;
+impl CellName {
+    // Its number.
+    pub fn number(self) -> u32
+        ensures { result ≡ cell_number self }
+    {
+        self as u32
+    }
+}
 
-pub const DECISION: u32 = 4;
+// The cell of a number.
+impl TryFrom<u32> for CellName {
+    type Error = Refusal;
+
+    ghost try_from_gives = { λ n r. r ≡ named n };
+
+    fn try_from(n: u32) -> Result<CellName, Refusal> {
+        match n {
+            1 => Ok(CellName::Proposal),
+            2 => Ok(CellName::Round),
+            3 => Ok(CellName::Pair),
+            4 => Ok(CellName::Decision),
+            _ => Err(Refusal::NoSuchCell),
+        }
+    }
+}
+
+impl fmt::Display for CellName {
+    ghost output = { λ cell. Some (spelled cell) };
+
+    fn fmt<W: fmt::Write>(&self, f: &mut fmt::Formatter<W>) -> fmt::Result {
+        match self {
+            CellName::Proposal => write!(f, "proposal"),
+            CellName::Round => write!(f, "round"),
+            CellName::Pair => write!(f, "pair"),
+            CellName::Decision => write!(f, "decision"),
+        }
+    }
+}
+
+// The greatest round, and the greatest reading.
+pub const MAX_ROUND: u32 = 999_999;
+
+pub const MAX_READING: u32 = 99_999_999;
 
 // A number, and beside it the stamp where the cell is a pair.
-#[derive(Clone, Copy, PartialEq, Eq, Debug)]
+#[derive(Clone, Copy, Default, PartialEq, Eq, Debug)]
 pub struct Content {
     pub number: u32,
     pub stamp: u32,
@@ -43,24 +90,41 @@ impl Refusal {
 pub fn index_of(process: u32, cell: u32) -> Result<usize, Refusal>
     ensures { result ≡ (if is_cell process cell then Ok (index process cell) else Err NoSuchCell) }
 {
-    if process < 1 || 9 < process || cell < 1 || 4 < cell {
+    if !(1..=9).contains(&process) || !(1..=4).contains(&cell) {
         return Err(Refusal::NoSuchCell);
     }
     Ok((process as usize - 1) * 4 + (cell as usize - 1))
+}
+
+// The process and the cell at such an index.
+pub fn cell_at(index: u32) -> (u32, u32)
+    ensures { result ≡ (index / 4 + 1, index % 4 + 1) }
+{
+    (index / 4 + 1, index % 4 + 1)
 }
 
 // Whether a number is in the cell's range.
 pub fn is_number_fit(cell: u32, number: u32) -> bool
     ensures { result ≡ fits_number cell number }
 {
-    1 <= number && number <= if cell == ROUND { 999_999 } else { 99_999_999 }
+    let most = if cell == CellName::Round.number() {
+        MAX_ROUND
+    } else {
+        MAX_READING
+    };
+    (1..=most).contains(&number)
 }
 
 // Whether a stamp is in the cell's range.
 pub fn is_stamp_fit(cell: u32, stamp: u32) -> bool
     ensures { result ≡ fits_stamp cell stamp }
 {
-    stamp <= if cell == PAIR { 999_999 } else { 0 }
+    let most = if cell == CellName::Pair.number() {
+        MAX_ROUND
+    } else {
+        0
+    };
+    stamp <= most
 }
 
 // Whether a content is in the cell's range.

@@ -2,19 +2,16 @@
 use Rattle.std.proofs.Common.{◌≡◌, ℕ, zero, suc, ◌-◌, ◌<◌, Bool, true, false, List, [], ◌∷◌, length, get_or, Some, None, Option, sym, refl, ap, ◌∙◌, subst, inl, inr, sub-one, arith}
 use Rattle.std.proofs.lemmas.Bool.{cases_Bool, cases_order, cond_both, cond-true, cond-false, both_ways}
 use Rattle.std.proofs.ByRecursion.{All-from_get_or}
-use Rattle.std.specs.List.{AllByRecursion as All, slice_get}
+use Rattle.std.specs.List.{AllByRecursion as All}
+use Rattle.std.proofs.lemmas.List.{nil_from_length}
+use Rattle.std.proofs.lemmas.Option.{get_or_from_slice_get, none-some, same_Some}
 use Rattle.tray.specs.Best.{Top, Best, Chosen, better, best_of}
 use Rattle.tray.specs.Items.{element}
 
 -- what stands at a place, read at any default
-nth_getD : {T : Type 0} (xs : List T) (i : ℕ) (x d : T) → slice_get xs i ≡ Some x → get_or xs i d ≡ x
-nth_getD [] i x d e = let z : ◌≡◌ {A = ℕ} 0 1 = cc in absurd (omega arith)
-nth_getD (y ∷ xs) zero x d e = cc
-nth_getD (y ∷ xs) (suc i) x d e = nth_getD xs i x d e
-
 pub element_getD : {T : Type 0} (xs : List T) (p : ℕ) (x d : T) → element xs p ≡ Some x → get_or xs (p - 1) d ≡ x
-element_getD xs zero x d e = let z : ◌≡◌ {A = ℕ} 0 1 = cc in absurd (omega arith)
-element_getD xs (suc i) x d e = rw sub-one (nth_getD xs i x d e)
+element_getD xs zero x d e = absurd (none-some x e)
+element_getD xs (suc i) x d e = rw sub-one (get_or_from_slice_get xs i x d e)
 
 module _ {T : Type 0} (prefers : T → T → Bool) where
   -- two places that are both the first are one
@@ -23,10 +20,6 @@ module _ {T : Type 0} (prefers : T → T → Bool) where
     | inl e ↦ e
     | inr o ↦ elim o [ inl h ↦ absurd (b.1 p h a.0) | inr h ↦ absurd (a.1 q h b.0) ]
   ]
-
-  empty : (xs : List T) → length xs ≡ 0 → xs ≡ []
-  empty [] e = refl
-  empty (x ∷ xs) e = absurd (omega arith)
 
   pub chosen_same : (xs : List T) (r s : Option T) → Chosen prefers xs r → Chosen prefers xs s → r ≡ s
   chosen_same xs None None a b = refl
@@ -58,7 +51,7 @@ module _ {T : Type 0} (prefers : T → T → Bool) where
       is,
     ) where
       here : (d : T) → get_or xs i d ≡ y
-      here d = nth_getD xs i y d is
+      here d = get_or_from_slice_get xs i y d is
 
       top : (k : ℕ) (d : T) → k < length (x ∷ xs) → prefers (get_or xs i d) (get_or (x ∷ xs) k d) ≡ true
       top zero d h = subst (λ (z : T). prefers z x ≡ true) (sym (here d)) (total x y e)
@@ -73,7 +66,7 @@ module _ {T : Type 0} (prefers : T → T → Bool) where
 
     grow : (x : T) (xs : List T) (r : Option T) → Chosen prefers xs r → Chosen prefers (x ∷ xs) (better prefers x r)
     grow x xs None c =
-        let none : xs ≡ [] = empty xs c in
+        let none : xs ≡ [] = nil_from_length xs c in
         front_best x x xs (λ k d h. absurd (omega arith)) (itself x)
     grow x xs (Some y) (p, b, is) = elim (cases_Bool (prefers x y)) [
       | inl e ↦
@@ -96,11 +89,11 @@ module _ {T : Type 0} (prefers : T → T → Bool) where
 
   -- the best of a list is one of it
   pub best_in : (P : T → Type 0) (xs : List T) (b : T) → All P xs → best_of prefers xs ≡ Some b → P b
-  best_in P [] b h e = let z : ◌≡◌ {A = ℕ} 0 1 = cc in absurd (omega arith)
+  best_in P [] b h e = absurd (none-some b e)
   best_in P (x ∷ xs) b h e = one (best_of prefers xs) (λ y i. best_in P xs y h.1 i) e
     where
       one : (r : Option T) → ((y : T) → r ≡ Some y → P y) → better prefers x r ≡ Some b → P b
-      one None later j = let z : x ≡ b = cc in subst P z h.0
+      one None later j = subst P (same_Some x b j) h.0
       one (Some y) later j =
           cond_both (prefers x y) (Some x) (Some y) (λ (o : Option T). o ≡ Some b → P b)
-          (λ _ k. let z : x ≡ b = cc in subst P z h.0) (λ _ k. let z : y ≡ b = cc in subst P z (later y refl)) j
+          (λ _ k. subst P (same_Some x b k) h.0) (λ _ k. later b k) j

@@ -2,4 +2,3 @@ pub mod Bests
 mod First
 mod Places
 pub mod Room
-mod Shift

@@ -1,29 +1,31 @@
-use Rattle.std.proofs.Common.{◌≡◌, ℕ, zero, suc, ◌-◌, ◌<◌, ◌≤◌, List, [], length, get_or, take, drop, Some, None, sym, refl, ap, ◌∙◌, sub-one, arith}
-use Rattle.std.specs.List.{remove}
-use Rattle.std.proofs.lemmas.List.{length-take, length-take-le, get_or-take, take_all, drop_all, append-nil}
-use Rattle.std.proofs.lemmas.Option.{slice_get_past, slice_get_read}
+-- What stands at a place, and what is left when it is taken out.
+use Rattle.std.proofs.Common.{◌≡◌, ℕ, zero, suc, ◌+◌, ◌-◌, ◌≤◌, List, [], ◌∷◌, length, take, drop, Some, None, refl, sym, ap, ◌∙◌, sub-one, arith}
+use Rattle.std.specs.List.{copy_within}
+use Rattle.std.proofs.lemmas.List.{take-take, drop-take, length-drop, length-take}
+use Rattle.std.proofs.lemmas.List.Edits.{take-paste}
+use Rattle.std.proofs.lemmas.Option.{slice_get_within, none-some}
 use Rattle.tray.specs.Items.{element, without}
 
--- the first `n` of the slots have no such place
-pub element_none : {T : Type 0} (xs : List T) (n p : ℕ) → (0 < p → n < p) → element (take n xs) p ≡ None
-element_none xs n zero h = refl
-element_none xs n (suc i) h = slice_get_past (take n xs) i (simp length-take (omega arith))
+-- a place at which something stands among the first n
+pub element_within : {T : Type 0} (xs : List T) (n p : ℕ) (x : T) → Some x ≡ element (take n xs) p → (1 ≤ p) × (p ≤ n)
+element_within xs n zero x e = absurd (none-some x (sym e))
+element_within xs n (suc i) x e = (omega arith, omega (arith, slice_get_within (take n xs) i x (sym e), length-take n xs))
 
-pub without_none : {T : Type 0} (xs : List T) (n p : ℕ) → (0 < p → n < p) → without (take n xs) p ≡ take n xs
-without_none xs n zero h = refl
-without_none xs n (suc i) h =
-    let l : n ≤ i = omega arith in
-    let d : drop (suc i) (take n xs) ≡ [] = drop_all (suc i) (take n xs) (simp length-take (omega arith)) in
-    let t : take i (take n xs) ≡ take n xs = take_all i (take n xs) (simp length-take (omega arith)) in
-    rw (d, t, append-nil)
+-- a place that the list lacks
+pub without_none : {T : Type 0} (xs : List T) (p : ℕ) → None ≡ element xs p → without xs p ≡ xs
+without_none xs zero e = refl
+without_none [] (suc zero) e = refl
+without_none [] (suc (suc i)) e = refl
+without_none (x ∷ xs) (suc zero) e = absurd (none-some x e)
+without_none (x ∷ xs) (suc (suc i)) e = ap (λ (l : List _). x ∷ l) (without_none xs (suc i) e)
 
--- what stands there, read at a place counted from 0
-pub element_some : {T : Type 0} (xs : List T) (n p : ℕ) (x : T) → 0 < p → p ≤ n → n ≤ length xs → x ≡ get_or xs (p - 1) x → element (take n xs) p ≡ Some x
-element_some xs n zero x h l f e = absurd (omega arith)
-element_some xs n (suc i) x h l f e =
-    let e' : x ≡ get_or xs i x = rw sub-one at e in
-    slice_get_read (take n xs) n i x (sym (length-take-le n xs f)) (omega arith) (e' ∙ sym (get_or-take n xs i x (omega arith)))
-
-pub without_some : {T : Type 0} (xs : List T) (p : ℕ) → 0 < p → without xs p ≡ remove xs (p - 1)
-without_some xs zero h = absurd (omega arith)
-without_some xs (suc i) h = ap (remove xs) (sym (sub-one (suc i)))
+-- the later elements moved down by one
+pub moved_down : {T : Type 0} (s : List T) (n p : ℕ) → 1 ≤ p → p ≤ n → n ≤ length s → take (n - 1) (copy_within s p n (p - 1)) ≡ without (take n s) p
+moved_down s n zero low high fits = absurd (omega arith)
+moved_down s n (suc i) low high fits =
+    let m : i + (n - suc i) ≡ n - 1 = omega arith in
+    let k : suc i + (n - suc i) ≡ n = omega arith in
+    let b : i ≤ n = omega arith in
+    let rest : drop (suc i) (take n s) ≡ take (n - suc i) (drop (suc i) s) =
+    ap (λ j. drop (suc i) (take j s)) (sym k) ∙ drop-take (suc i) (n - suc i) s in
+    rw (← m, sub-one, rest, take-take) (take-paste s i (drop (suc i) s) (n - suc i) (omega arith) (simp length-drop (omega arith)))

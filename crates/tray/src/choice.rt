@@ -11,16 +11,15 @@ use super::preference::Preference;
 pub fn best<T: Preference>(items: &[T]) -> Option<usize>
     ensures { Best T.Preference.prefers items.now result }
 {
-    if items.is_empty() {
-        return None;
-    }
-    let mut top = 0;
-    for i in 1..items.len() {
-        if !items[top].at_least(&items[i]) {
-            top = i;
+    let mut top = items.first()?;
+    let mut place = 1;
+    for (i, x) in items.iter().enumerate() {
+        if !top.at_least(x) {
+            top = x;
+            place = i + 1;
         }
     }
-    Some(top + 1)
+    Some(place)
 }
 
 // The best element of a tray.

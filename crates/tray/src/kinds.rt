@@ -5,7 +5,7 @@ ghost use Rattle.std.proofs.Common.{rules};
 use super::preference::Preference;
 
 // What a process offers in a round: its reading, and the stamp, the round in which it took it over.
-#[derive(Clone, Copy, PartialEq, Eq, Debug)]
+#[derive(Clone, Copy, Default, PartialEq, Eq, Debug)]
 pub struct Estimate {
     pub sender: u32,
     pub reading: u32,
@@ -13,12 +13,13 @@ pub struct Estimate {
 }
 
 // The number of a round.
-#[derive(Clone, Copy, PartialEq, Eq, Debug)]
+#[derive(Clone, Copy, Default, PartialEq, Eq, Debug)]
 pub struct Round {
     pub number: u32,
 }
 
-// A greater stamp is preferred, and at equal stamps a lower sender.
+// A greater stamp is preferred, and at equal stamps a lower sender. It is no `Ord`: the reading does not
+// count, so different estimates may tie.
 impl Preference for Estimate {
     ghost prefers = { prefers_estimate };
 
@@ -31,7 +32,7 @@ impl Preference for Estimate {
     }
 }
 
-// A smaller round is preferred.
+// A smaller round is preferred; by `Ord` the greater would come out on top.
 impl Preference for Round {
     ghost prefers = { prefers_round };
 

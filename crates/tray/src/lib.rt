@@ -8,7 +8,8 @@ pub mod kinds;
 mod methods;
 pub mod preference;
 
-// A list in a lent slice: its elements are the first `len` of the slots.
+// A list in a lent slice: its elements are the first `len` of the slots. With no heap, the room for it
+// is its owner's. It has no model, whose value would lack the slice's name, of which the contracts speak.
 #[derive(Drop)]
 pub struct Tray<'a, T> {
     slots: &'a mut [T],
@@ -58,11 +59,7 @@ mod tests {
     #[test]
     fn the_best_is_the_first_of_equals(rt: HostRuntime) {
         let offers = [(3, 9, 2), (2, 7, 3), (1, 5, 0), (4, 8, 3)];
-        let mut slots = [Estimate {
-            sender: 0,
-            reading: 0,
-            stamp: 0,
-        }; 9];
+        let mut slots = [Estimate::default(); 9];
         let mut tray = Tray::new(&mut slots);
         assert_eq!(rt; best_of_tray(&tray), None);
         for (sender, reading, stamp) in offers {

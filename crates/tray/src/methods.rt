@@ -33,19 +33,14 @@ impl<'a, T: Copy> Tray<'a, T> {
     pub fn as_slice(&self) -> &[T]
         ensures { result.now ≡ items self.now }
     {
-        let slots = &*self.slots;
-        &slots[0..self.len]
+        &self.slots[..self.len]
     }
 
     // The element at a place, counted from 1.
     pub fn at(&self, place: usize) -> Option<T>
         ensures { result ≡ element (items self.now) place }
     {
-        if place == 0 || place > self.len {
-            return None;
-        }
-        let slots = &*self.slots;
-        Some(slots[place - 1])
+        self.as_slice().get(place.checked_sub(1)?).copied()
     }
 
     // Puts an element at the end; a full tray stays as it is.
@@ -70,15 +65,9 @@ impl<'a, T: Copy> Tray<'a, T> {
         ensures room { places self.new ≡ places self.old }
         ensures named { self.new.slots.ghost_name ≡ self.old.slots.ghost_name }
     {
-        if place == 0 || place > self.len {
-            return None;
-        }
-        let end = self.len;
-        let x = self.slots[place - 1];
-        for k in place..end {
-            self.slots[k - 1] = self.slots[k];
-        }
-        self.len = end - 1;
+        let x = self.at(place)?;
+        self.slots.copy_within(place..self.len, place - 1);
+        self.len -= 1;
         Some(x)
     }
 }

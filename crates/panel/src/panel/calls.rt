@@ -1,12 +1,13 @@
 //! The seven calls.
-ghost use Rattle.std.specs.Prelude.{◌≡◌, ◌-◌, ◌≤◌, true, ◌&&◌, length, replicate, is_some, if◌then◌else◌, Some, None, Ok, Err, nat_le, slice_index_or};
-ghost use Rattle.agreement.specs.declared.call.Refusal.TheVariants.{CutTooLarge};
+ghost use Rattle.std.specs.Prelude.{◌≡◌, ◌-◌, ◌≤◌, true, ◌&&◌, length, replicate, is_ok, is_some, IfOk, IfErr, if◌then◌else◌, Some, None, Ok, Err, nat_le, slice_index_or};
+ghost use Rattle.agreement.specs.declared.call.Refusal.TheVariants.{CutTooLarge, NoSuchProcess};
 ghost use Rattle.agreement.specs.Calls.{again_of, allowed, crash_of, cut_fits, deliver_of, done, early, finished, look_of, lose_of, propose_of, recover_of};
 ghost use Rattle.tray.specs.declared.Tray.{Tray as Waiting};
 ghost use Rattle.process.specs.declared.message.Message.{Message};
 ghost use Rattle.process.specs.declared.memory.Status.TheVariants.{Down, Up};
 ghost use Rattle.process.specs.Ranges.{act_fits, every};
 ghost use Rattle.process.specs.Turns.{step};
+ghost use Rattle.store.specs.CellNames.{cell_number};
 ghost use Rattle.panel.specs.Panels.{outcome_in, state_in};
 ghost use Rattle.panel.specs.Records.{status_fits};
 
@@ -19,18 +20,15 @@ use process::message::{Kind, Message, is_reading};
 use process::turn::Turn;
 use process::turn::steps::{again_turn, deliver_turn, look_turn, propose_turn, recover_turn};
 use quorum::QuorumRule;
-use store::Store;
-use store::content::{Content, DECISION, PAIR, PROPOSAL, ROUND};
+use store::content::{CellName, Content};
+use store::{Store, held};
 use tray::Tray;
 
 // How many of n actions are done under a cut.
 fn allow(cut: Option<u32>, n: usize) -> usize
     ensures { result ≡ allowed cut n }
 {
-    match cut {
-        None => n,
-        Some(k) => n.min(k as usize),
-    }
+    cut.map_or(n, |k| n.min(k as usize))
 }
 
 // Whether a cut is at most 99.
@@ -47,15 +45,14 @@ fn check_cut(cut: Option<u32>) -> Result<(), Refusal>
 fn is_early(message: &Message, memory: &Memory) -> bool
     ensures { result ≡ early message.now memory.now }
 {
-    match (memory.phase, message.kind) {
-        (Phase::Gathering, Kind::Ack) => message.round == memory.round,
-        _ => false,
-    }
+    matches!((memory.phase, message.kind), (Phase::Gathering, Kind::Ack))
+        && message.round == memory.round
 }
 
 // The promise of each call is one equation: its answer, and panel and tray after it (`outcome_in`), are what
 // the verdict on the call comes to at what stood before (`state_in`), carried out (`done`). Refused calls are
-// part of it. What stands in front of a panel there is what its rule and its store mean.
+// part of it. What stands in front of a panel there is what its rule and its store mean. The tray is lent to each
+// call and not kept, since its owner may change it in between.
 impl<S: Store, R: QuorumRule> Panel<S, R> {
     // A panel over a store and a rule; every process is down.
     pub fn new(store: S, rule: R) -> Panel<S, R>
@@ -79,9 +76,7 @@ impl<S: Store, R: QuorumRule> Panel<S, R> {
     pub fn status(&self, p: u32) -> Option<Status>
         ensures { result ≡ (if nat_le 1 p && nat_le p (R.QuorumRule.processes self.now.rule) then Some (slice_index_or self.now.table.records (p - 1) Down) else None) }
     {
-        let Some(id) = ProcessId::new(&self.rule, p) else {
-            return None;
-        };
+        let id = ProcessId::new(&self.rule, p)?;
         Some(self.table.get(id))
     }
 
@@ -90,6 +85,15 @@ impl<S: Store, R: QuorumRule> Panel<S, R> {
         ensures { result ≡ (self.store, self.rule) }
     {
         (self.store, self.rule)
+    }
+
+    // The process of a number, if the rule has it.
+    fn member(&self, p: u32) -> Result<ProcessId, Refusal>
+        ensures test { is_ok result ≡ nat_le 1 p && nat_le p (R.QuorumRule.processes self.now.rule) }
+        ensures kept { IfOk result (λ id. (id.number ≡ p) × (id.number ≤ R.QuorumRule.processes self.now.rule)) }
+        ensures refused { IfErr result (λ e. e ≡ NoSuchProcess) }
+    {
+        ProcessId::new(&self.rule, p).ok_or(Refusal::NoSuchProcess)
     }
 
     // Performs what a step planned, as far as the cut goes, and writes the record back.
@@ -101,11 +105,11 @@ impl<S: Store, R: QuorumRule> Panel<S, R> {
         turn: Turn,
     ) -> u32
         requires { (length (step turn).acts ≤ 32) × ((every (act_fits 9 p.number) (step turn).acts ≡ true) × (status_fits p.number (Up (step turn).memory) ≡ true)) }
-        ensures { outcome_in R.QuorumRule.processes R.QuorumRule.quorum S.Store.cells (Ok result) self.new tray.new ≡ finished p.number cut (step turn) (state_in R.QuorumRule.processes R.QuorumRule.quorum S.Store.cells self.old tray.old) }
+        ensures { outcome_in R.QuorumRule S.Store (Ok result) self.new tray.new ≡ finished p.number cut (step turn) (state_in R.QuorumRule S.Store self.old tray.old) }
     {
         let actions = turn.plan.actions();
         let k = allow(cut, actions.len());
-        perform(&mut self.store, tray, p, actions, k);
+        perform(&mut self.store, tray, p, &actions[..k]);
         let status = match cut {
             None => Status::Up(turn.memory),
             Some(_) => Status::Down,
@@ -116,18 +120,12 @@ impl<S: Store, R: QuorumRule> Panel<S, R> {
 
     // Puts a process down. No tray takes part: the equation holds with every one.
     pub fn crash(&mut self, p: u32) -> Result<u32, Refusal>
-        ensures { (tray : Waiting Message) → outcome_in R.QuorumRule.processes R.QuorumRule.quorum S.Store.cells result self.new tray ≡ done (crash_of p) (state_in R.QuorumRule.processes R.QuorumRule.quorum S.Store.cells self.old tray) }
+        ensures { (tray : Waiting Message) → outcome_in R.QuorumRule S.Store result self.new tray ≡ done (crash_of p) (state_in R.QuorumRule S.Store self.old tray) }
     {
-        let Some(id) = ProcessId::new(&self.rule, p) else {
-            return Err(Refusal::NoSuchProcess);
-        };
-        match self.table.get(id) {
-            Status::Down => Err(Refusal::ProcessDown),
-            Status::Up(_) => {
-                self.table.put(id, Status::Down);
-                Ok(0)
-            }
-        }
+        let id = self.member(p)?;
+        self.table.up(id)?;
+        self.table.put(id, Status::Down);
+        Ok(0)
     }
 
     // Sends the last message to each other process that has one once more.
@@ -137,16 +135,11 @@ impl<S: Store, R: QuorumRule> Panel<S, R> {
         p: u32,
         cut: Option<u32>,
     ) -> Result<u32, Refusal>
-        ensures { outcome_in R.QuorumRule.processes R.QuorumRule.quorum S.Store.cells result self.new tray.new ≡ done (again_of p cut) (state_in R.QuorumRule.processes R.QuorumRule.quorum S.Store.cells self.old tray.old) }
+        ensures { outcome_in R.QuorumRule S.Store result self.new tray.new ≡ done (again_of p cut) (state_in R.QuorumRule S.Store self.old tray.old) }
     {
         check_cut(cut)?;
-        let Some(id) = ProcessId::new(&self.rule, p) else {
-            return Err(Refusal::NoSuchProcess);
-        };
-        let memory = match self.table.get(id) {
-            Status::Down => return Err(Refusal::ProcessDown),
-            Status::Up(memory) => memory,
-        };
+        let id = self.member(p)?;
+        let memory = self.table.up(id)?;
         match memory.phase {
             Phase::Done => Err(Refusal::ProcessDone),
             Phase::Idle => Err(Refusal::ProcessIdle),
@@ -155,21 +148,17 @@ impl<S: Store, R: QuorumRule> Panel<S, R> {
     }
 
     // What a process's cell holds.
-    fn cell(&self, p: ProcessId, cell: u32) -> Option<Content>
-        requires { (1 ≤ cell) × (cell ≤ 4) }
-        ensures { result ≡ S.Store.cells self.now.store p.number cell }
+    fn cell(&self, p: ProcessId, cell: CellName) -> Option<Content>
+        ensures { result ≡ S.Store.cells self.now.store p.number (cell_number cell) }
     {
-        match self.store.read(p.number, cell) {
-            Ok(content) => content,
-            Err(_) => None,
-        }
+        held(&self.store, p.number, cell.number())
     }
 
     // Whether a process has proposed.
     fn has_proposed(&self, p: ProcessId) -> bool
         ensures { result ≡ is_some (S.Store.cells self.now.store p.number 1) }
     {
-        self.cell(p, PROPOSAL).is_some()
+        self.cell(p, CellName::Proposal).is_some()
     }
 
     // Proposes a reading.
@@ -180,29 +169,22 @@ impl<S: Store, R: QuorumRule> Panel<S, R> {
         reading: u32,
         cut: Option<u32>,
     ) -> Result<u32, Refusal>
-        ensures { outcome_in R.QuorumRule.processes R.QuorumRule.quorum S.Store.cells result self.new tray.new ≡ done (propose_of p reading cut) (state_in R.QuorumRule.processes R.QuorumRule.quorum S.Store.cells self.old tray.old) }
+        ensures { outcome_in R.QuorumRule S.Store result self.new tray.new ≡ done (propose_of p reading cut) (state_in R.QuorumRule S.Store self.old tray.old) }
     {
         check_cut(cut)?;
-        let Some(id) = ProcessId::new(&self.rule, p) else {
-            return Err(Refusal::NoSuchProcess);
-        };
-        let memory = match self.table.get(id) {
-            Status::Down => return Err(Refusal::ProcessDown),
-            Status::Up(memory) => memory,
-        };
-        match memory.phase {
-            Phase::Done => Err(Refusal::ProcessDone),
-            _ => {
-                if self.has_proposed(id) {
-                    return Err(Refusal::AlreadyProposed);
-                }
-                if !is_reading(reading) {
-                    return Err(Refusal::NotAReading);
-                }
-                let turn = propose_turn(&self.rule, id, memory, reading);
-                Ok(self.finish(tray, id, cut, turn))
-            }
+        let id = self.member(p)?;
+        let memory = self.table.up(id)?;
+        if memory.phase == Phase::Done {
+            return Err(Refusal::ProcessDone);
         }
+        if self.has_proposed(id) {
+            return Err(Refusal::AlreadyProposed);
+        }
+        if !is_reading(reading) {
+            return Err(Refusal::NotAReading);
+        }
+        let turn = propose_turn(&self.rule, id, memory, reading);
+        Ok(self.finish(tray, id, cut, turn))
     }
 
     // Brings a process up again, from its own cells.
@@ -212,20 +194,18 @@ impl<S: Store, R: QuorumRule> Panel<S, R> {
         p: u32,
         cut: Option<u32>,
     ) -> Result<u32, Refusal>
-        ensures { outcome_in R.QuorumRule.processes R.QuorumRule.quorum S.Store.cells result self.new tray.new ≡ done (recover_of p cut) (state_in R.QuorumRule.processes R.QuorumRule.quorum S.Store.cells self.old tray.old) }
+        ensures { outcome_in R.QuorumRule S.Store result self.new tray.new ≡ done (recover_of p cut) (state_in R.QuorumRule S.Store self.old tray.old) }
     {
         check_cut(cut)?;
-        let Some(id) = ProcessId::new(&self.rule, p) else {
-            return Err(Refusal::NoSuchProcess);
-        };
+        let id = self.member(p)?;
         if let Status::Up(_) = self.table.get(id) {
             return Err(Refusal::AlreadyUp);
         }
         let cells = OwnCells {
-            proposal: self.cell(id, PROPOSAL),
-            round: self.cell(id, ROUND),
-            pair: self.cell(id, PAIR),
-            decision: self.cell(id, DECISION),
+            proposal: self.cell(id, CellName::Proposal),
+            round: self.cell(id, CellName::Round),
+            pair: self.cell(id, CellName::Pair),
+            decision: self.cell(id, CellName::Decision),
         };
         let turn = recover_turn(&self.rule, id, cells);
         Ok(self.finish(tray, id, cut, turn))
@@ -238,24 +218,22 @@ impl<S: Store, R: QuorumRule> Panel<S, R> {
         place: usize,
         cut: Option<u32>,
     ) -> Result<u32, Refusal>
-        ensures { outcome_in R.QuorumRule.processes R.QuorumRule.quorum S.Store.cells result self.new tray.new ≡ done (deliver_of place cut) (state_in R.QuorumRule.processes R.QuorumRule.quorum S.Store.cells self.old tray.old) }
+        ensures { outcome_in R.QuorumRule S.Store result self.new tray.new ≡ done (deliver_of place cut) (state_in R.QuorumRule S.Store self.old tray.old) }
     {
         check_cut(cut)?;
-        let Some(message) = tray.at(place) else {
-            return Err(Refusal::NoMessage);
-        };
-        let Some(letter) = Letter::new(&self.rule, message) else {
-            return Err(Refusal::NoMessage);
-        };
+        let message = tray.at(place).ok_or(Refusal::NoMessage)?;
+        let letter = Letter::new(&self.rule, message).ok_or(Refusal::NoMessage)?;
         let id = letter.addressee();
-        let memory = match self.table.get(id) {
-            Status::Down => return Err(Refusal::ProcessDown),
-            Status::Up(memory) => memory,
-        };
+        let memory = self.table.up(id)?;
         if is_early(&message, &memory) {
             return Err(Refusal::EarlyAck);
         }
-        let turn = deliver_turn(&self.rule, memory, letter, self.cell(id, DECISION));
+        let turn = deliver_turn(
+            &self.rule,
+            memory,
+            letter,
+            self.cell(id, CellName::Decision),
+        );
         Ok(self.finish(tray, id, cut, turn))
     }
 
@@ -267,26 +245,17 @@ impl<S: Store, R: QuorumRule> Panel<S, R> {
         list: &[Option<u32>],
         cut: Option<u32>,
     ) -> Result<u32, Refusal>
-        ensures { outcome_in R.QuorumRule.processes R.QuorumRule.quorum S.Store.cells result self.new tray.new ≡ done (look_of p list.now cut) (state_in R.QuorumRule.processes R.QuorumRule.quorum S.Store.cells self.old tray.old) }
+        ensures { outcome_in R.QuorumRule S.Store result self.new tray.new ≡ done (look_of p list.now cut) (state_in R.QuorumRule S.Store self.old tray.old) }
     {
         check_cut(cut)?;
-        let Some(id) = ProcessId::new(&self.rule, p) else {
-            return Err(Refusal::NoSuchProcess);
-        };
-        let memory = match self.table.get(id) {
-            Status::Down => return Err(Refusal::ProcessDown),
-            Status::Up(memory) => memory,
-        };
+        let id = self.member(p)?;
+        let memory = self.table.up(id)?;
         match memory.phase {
             Phase::Done => Err(Refusal::ProcessDone),
             Phase::Idle => Err(Refusal::ProcessIdle),
+            _ if !is_list(self.rule.size(), list) => Err(Refusal::WrongList),
             _ => {
-                if !is_list(self.rule.size(), list) {
-                    return Err(Refusal::WrongList);
-                }
-                let Ok(turn) = look_turn(&self.rule, id, memory, list) else {
-                    return Err(Refusal::NoRoundFits);
-                };
+                let turn = look_turn(&self.rule, id, memory, list)?;
                 Ok(self.finish(tray, id, cut, turn))
             }
         }
@@ -294,11 +263,9 @@ impl<S: Store, R: QuorumRule> Panel<S, R> {
 
     // Takes the message at a place out of the tray. No process takes part.
     pub fn lose(&self, tray: &mut Tray<Message>, place: usize) -> Result<u32, Refusal>
-        ensures { outcome_in R.QuorumRule.processes R.QuorumRule.quorum S.Store.cells result self.now tray.new ≡ done (lose_of place) (state_in R.QuorumRule.processes R.QuorumRule.quorum S.Store.cells self.now tray.old) }
+        ensures { outcome_in R.QuorumRule S.Store result self.now tray.new ≡ done (lose_of place) (state_in R.QuorumRule S.Store self.now tray.old) }
     {
-        match tray.take_out(place) {
-            None => Err(Refusal::NoMessage),
-            Some(_) => Ok(0),
-        }
+        tray.take_out(place).ok_or(Refusal::NoMessage)?;
+        Ok(0)
     }
 }

@@ -1,5 +1,6 @@
-ghost use Rattle.std.specs.Prelude.{◌≡◌, ◌&&◌, is_some, IfSome, nat_le};
+ghost use Rattle.std.specs.Prelude.{◌≡◌, ◌-◌, ◌<◌, ◌&&◌, is_some, IfSome, nat_le};
 ghost use Rattle.process.specs.Messages.{well_formed};
+ghost use Rattle.process.specs.Rounds.{coordinator};
 
 use super::super::message::Message;
 use super::{Letter, ProcessId};
@@ -11,13 +12,28 @@ impl ProcessId {
         ensures test { is_some result ≡ nat_le 1 number && nat_le number (R.QuorumRule.processes rule.now) }
         ensures kept { IfSome result (λ p. p.number ≡ number) }
     {
-        if number < 1 {
-            return None;
+        if (1..=rule.size()).contains(&number) {
+            Some(ProcessId { number })
+        } else {
+            None
         }
-        if rule.size() < number {
-            return None;
+    }
+
+    // The coordinator of a round.
+    pub(crate) fn coordinator_of<R: QuorumRule>(rule: &R, round: u32) -> ProcessId
+        ensures { result.number ≡ coordinator (R.QuorumRule.processes rule.now) round }
+    {
+        ProcessId {
+            number: round % rule.size() + 1,
         }
-        Some(ProcessId { number })
+    }
+
+    // Where it stands in what is indexed by process.
+    pub fn place(self) -> usize
+        ensures value { result ≡ self.number - 1 }
+        ensures within { result < 9 }
+    {
+        self.number as usize - 1
     }
 }
 
@@ -27,10 +43,20 @@ impl Letter {
         ensures test { is_some result ≡ well_formed (R.QuorumRule.processes rule.now) message }
         ensures kept { IfSome result (λ l. l.message ≡ message) }
     {
-        if !message.is_well_formed(rule.size()) {
-            return None;
+        if message.is_well_formed(rule.size()) {
+            Some(Letter { message })
+        } else {
+            None
         }
-        Some(Letter { message })
+    }
+
+    // The process that it is from.
+    pub(crate) fn sender(self) -> ProcessId
+        ensures { result.number ≡ self.message.sender }
+    {
+        ProcessId {
+            number: self.message.sender,
+        }
     }
 
     // The process that it is for.

@@ -8,7 +8,7 @@ ghost use Rattle.process.specs.Meetings.{accept, again, deliver, heed, keep, lea
 ghost use Rattle.process.specs.Messages.{is_reading, well_formed};
 ghost use Rattle.process.specs.Phases.{is_active};
 ghost use Rattle.process.specs.Ranges.{memory_fits};
-ghost use Rattle.process.specs.Rounds.{ack, addressed, begin, best_kept, blank, conclude, confirmed, enter, follow, gathered, lead, number_or, only, propose, propound, recover, remember, send, senders, settle, stamp_or, still, to_all, write};
+ghost use Rattle.process.specs.Rounds.{ack, addressed, begin, best_kept, blank, conclude, confirmed, enter, follow, gathered, lead, only, propose, propound, recover, remember, send, senders, settle, still, to_all, write};
 ghost use Rattle.process.specs.Turns.{looked, planned, step, used};
 
 use super::super::identity::{Letter, ProcessId};
@@ -17,23 +17,50 @@ use super::super::memory::{Action, Memory, OwnCells, Phase};
 use super::super::message::{Kind, Message};
 use super::{NoRound, Plan, Turn};
 use quorum::{ProcessSet, QuorumRule};
-use store::content::{Content, DECISION, PAIR, PROPOSAL, ROUND};
+use store::content::{CellName, Content};
 use tray::Tray;
 use tray::choice::best_of_tray;
 use tray::kinds::Estimate;
+
+// A process in its panel: the rule, and which of the rule's processes it is. No model: its value would hold
+// the rule's test of sets, and the value of a model holds no function.
+#[derive(Drop)]
+struct Seat<'r, R> {
+    rule: &'r R,
+    id: ProcessId,
+}
+
+impl<R: QuorumRule> Seat<'_, R> {
+    // The set of it alone.
+    fn alone(&self) -> ProcessSet
+        ensures { result ≡ only self.now.id.number }
+    {
+        let mut set = [false; 9];
+        set[self.id.place()] = true;
+        set
+    }
+
+    // A message of it, whose addressee is still to be filled in.
+    fn message(&self, kind: Kind, round: u32, reading: u32, stamp: u32) -> Message
+        ensures { result ≡ record { sender = self.now.id.number; addressee = 0; kind = kind; round = round; reading = reading; stamp = stamp } }
+    {
+        Message {
+            sender: self.id.number,
+            addressee: 0,
+            kind,
+            round,
+            reading,
+            stamp,
+        }
+    }
+}
 
 impl Plan {
     // No action.
     fn new() -> Plan
         ensures { planned result ≡ [] }
     {
-        let unused = Action::Write(
-            0,
-            Content {
-                number: 0,
-                stamp: 0,
-            },
-        );
+        let unused = Action::Send(Message::default());
         Plan {
             actions: [unused; 32],
             len: 0,
@@ -46,16 +73,15 @@ impl Plan {
         ensures value { planned self.new ≡ planned self.old ++ (action ∷ []) }
         ensures bound { length (planned self.new) ≡ length (planned self.old) + 1 }
     {
-        let at = self.len;
-        self.actions[at] = action;
-        self.len = at + 1;
+        self.actions[self.len] = action;
+        self.len += 1;
     }
 
     // The actions in order.
     pub fn actions(&self) -> &[Action]
         ensures { result.now ≡ planned self.now }
     {
-        &self.actions[0..self.len]
+        &self.actions[..self.len]
     }
 }
 
@@ -63,27 +89,17 @@ impl Plan {
 fn senders_of(estimates: &[Option<Estimate>; 9]) -> ProcessSet
     ensures { result ≡ senders estimates.now }
 {
-    let mut set = [false; 9];
-    for (i, slot) in estimates.iter().enumerate() {
-        set[i] = slot.is_some();
-    }
-    set
+    estimates.map(|slot| slot.is_some())
 }
 
 // The best of the kept estimates.
 fn best_of_kept(estimates: &[Option<Estimate>; 9]) -> Option<Estimate>
     ensures { result ≡ best_kept estimates.now }
 {
-    let mut slots = [Estimate {
-        sender: 0,
-        reading: 0,
-        stamp: 0,
-    }; 9];
+    let mut slots = [Estimate::default(); 9];
     let mut tray = Tray::new(&mut slots);
-    for slot in estimates {
-        if let Some(estimate) = slot {
-            let _ = tray.put(*estimate);
-        }
+    for estimate in estimates.iter().flatten() {
+        let _ = tray.put(*estimate);
     }
     best_of_tray(&tray)
 }
@@ -94,74 +110,20 @@ fn repeat_last(last: &[Option<Message>; 9]) -> Plan
     ensures nine { length last.now ≡ 9 }
 {
     let mut plan = Plan::new();
-    for i in 0..9 {
-        if let Some(message) = last[i] {
-            plan.push(Action::Send(message));
-        }
+    for message in last.iter().flatten() {
+        plan.push(Action::Send(*message));
     }
     plan
-}
-
-// The set of one process alone.
-fn only_of(p: ProcessId) -> ProcessSet
-    ensures { result ≡ only p.number }
-{
-    let mut set = [false; 9];
-    set[p.number as usize - 1] = true;
-    set
-}
-
-// A message whose addressee is still to be filled in.
-fn message_of(p: ProcessId, kind: Kind, round: u32, reading: u32, stamp: u32) -> Message
-    ensures { result ≡ record { sender = p.number; addressee = 0; kind = kind; round = round; reading = reading; stamp = stamp } }
-{
-    Message {
-        sender: p.number,
-        addressee: 0,
-        kind,
-        round,
-        reading,
-        stamp,
-    }
-}
-
-// A cell's number, or another where it is absent.
-fn number_of(held: Option<Content>, other: u32) -> u32
-    ensures { result ≡ number_or held other }
-{
-    match held {
-        None => other,
-        Some(content) => content.number,
-    }
-}
-
-// A cell's stamp, or 0 where it is absent.
-fn stamp_of(held: Option<Content>) -> u32
-    ensures { result ≡ stamp_or held 0 }
-{
-    match held {
-        None => 0,
-        Some(content) => content.stamp,
-    }
 }
 
 // What a process remembers at first.
 fn blank_memory() -> Memory
     ensures { result ≡ blank }
 {
-    Memory {
-        phase: Phase::Idle,
-        round: 0,
-        reading: 0,
-        stamp: 0,
-        heard: 0,
-        epoch: None,
-        kept: [None; 9],
-        acknowledgers: [false; 9],
-        last: [None; 9],
-    }
+    Memory::default()
 }
 
+// What a `requires` says of `used` is the room that a method needs in the plan, whose 32 places are fixed.
 impl Turn {
     // Nothing done yet.
     fn start(memory: Memory) -> Turn
@@ -174,7 +136,7 @@ impl Turn {
     }
 
     // Writes a cell.
-    fn write(&mut self, cell: u32, number: u32, stamp: u32)
+    fn write(&mut self, cell: CellName, number: u32, stamp: u32)
         requires { used self.old + 1 ≤ 32 }
         ensures value { step self.new ≡ write cell number stamp (step self.old) }
         ensures bound { used self.new ≡ used self.old + 1 }
@@ -183,290 +145,290 @@ impl Turn {
             .push(Action::Write(cell, Content { number, stamp }));
     }
 
-    // Sends a message, which is then the last one to its addressee.
-    fn send(&mut self, message: Message)
-        requires { (1 ≤ message.addressee) × ((message.addressee ≤ 9) × (used self.old + 1 ≤ 32)) }
-        ensures value { step self.new ≡ send message (step self.old) }
+    // Sends a message to a process, which is then the last one to it.
+    fn send(&mut self, to: ProcessId, message: Message)
+        requires { used self.old + 1 ≤ 32 }
+        ensures value { step self.new ≡ send (addressed message to.number) (step self.old) }
         ensures bound { used self.new ≡ used self.old + 1 }
     {
-        self.memory.last[message.addressee as usize - 1] = Some(message);
+        let message = Message {
+            addressee: to.number,
+            ..message
+        };
+        self.memory.last[to.place()] = Some(message);
         self.plan.push(Action::Send(message));
     }
 
     // Sends a message that does not count as a last one.
-    fn post(&mut self, message: Message)
+    fn post(&mut self, to: ProcessId, message: Message)
         requires { used self.old + 1 ≤ 32 }
-        ensures { step self.new ≡ post message (step self.old) }
+        ensures { step self.new ≡ post (addressed message to.number) (step self.old) }
     {
-        self.plan.push(Action::Send(message));
+        self.plan.push(Action::Send(Message {
+            addressee: to.number,
+            ..message
+        }));
     }
 
-    // Sends a message to all processes 1 to n but its sender.
-    fn broadcast(&mut self, n: u32, message: Message)
-        requires { (n ≤ 9) × (used self.old + n ≤ 32) }
-        ensures value { step self.new ≡ to_all n message (step self.old) }
-        ensures bound { used self.new ≤ used self.old + n }
+    // Sends a message to all processes but its sender.
+    fn broadcast<R: QuorumRule>(&mut self, seat: &Seat<'_, R>, message: Message)
+        requires { used self.old + 9 ≤ 32 }
+        ensures value { step self.new ≡ to_all (R.QuorumRule.processes seat.now.rule.now) message (step self.old) }
+        ensures bound { used self.new ≤ used self.old + 9 }
     {
-        for i in 0..n {
-            let addressee = i + 1;
-            if addressee != message.sender {
-                self.send(Message {
-                    addressee,
-                    ..message
-                });
+        for number in 1..=seat.rule.size() {
+            if number != message.sender {
+                self.send(ProcessId { number }, message);
             }
         }
     }
 
     // Takes a reading as the round's choice: writes the pair, and tells all.
-    fn propound(&mut self, n: u32, p: ProcessId, reading: u32)
-        requires { (n ≤ 9) × (used self.old + 10 ≤ 32) }
-        ensures value { step self.new ≡ propound n p.number reading (step self.old) }
+    fn propound<R: QuorumRule>(&mut self, seat: &Seat<'_, R>, reading: u32)
+        requires { used self.old + 10 ≤ 32 }
+        ensures value { step self.new ≡ propound (R.QuorumRule.processes seat.now.rule.now) seat.now.id.number reading (step self.old) }
         ensures bound { used self.new ≤ used self.old + 10 }
     {
         let round = self.memory.round;
         self.memory.reading = reading;
         self.memory.stamp = round;
-        self.memory.acknowledgers = only_of(p);
+        self.memory.acknowledgers = seat.alone();
         self.memory.phase = Phase::Confirming;
-        self.write(PAIR, reading, round);
-        self.broadcast(n, message_of(p, Kind::NewEstimate, round, reading, 0));
+        self.write(CellName::Pair, reading, round);
+        self.broadcast(seat, seat.message(Kind::NewEstimate, round, reading, 0));
     }
 
     // Decides the reading: tells all, and writes the decision.
-    fn conclude(&mut self, n: u32, p: ProcessId)
-        requires { (n ≤ 9) × (used self.old + 10 ≤ 32) }
-        ensures { step self.new ≡ conclude n p.number (step self.old) }
+    fn conclude<R: QuorumRule>(&mut self, seat: &Seat<'_, R>)
+        requires { used self.old + 10 ≤ 32 }
+        ensures { step self.new ≡ conclude (R.QuorumRule.processes seat.now.rule.now) seat.now.id.number (step self.old) }
     {
         let reading = self.memory.reading;
-        self.broadcast(n, message_of(p, Kind::Decide, 0, reading, 0));
-        self.write(DECISION, reading, 0);
+        self.broadcast(seat, seat.message(Kind::Decide, 0, reading, 0));
+        self.write(CellName::Decision, reading, 0);
         self.memory.phase = Phase::Done;
     }
 
     // Where it gathers and the senders of kept estimates are enough, takes the best of them.
-    fn gathered<R: QuorumRule>(&mut self, rule: &R, p: ProcessId)
+    fn gathered<R: QuorumRule>(&mut self, seat: &Seat<'_, R>)
         requires { used self.old + 10 ≤ 32 }
-        ensures value { step self.new ≡ gathered (R.QuorumRule.processes rule.now) p.number (R.QuorumRule.quorum rule.now) (step self.old) }
+        ensures value { step self.new ≡ gathered (R.QuorumRule.processes seat.now.rule.now) seat.now.id.number (R.QuorumRule.quorum seat.now.rule.now) (step self.old) }
         ensures bound { used self.new ≤ used self.old + 10 }
     {
-        if let Phase::Gathering = self.memory.phase {
-            if rule.enough(&senders_of(&self.memory.kept)) {
-                if let Some(best) = best_of_kept(&self.memory.kept) {
-                    self.propound(rule.size(), p, best.reading);
-                }
-            }
+        if self.memory.phase == Phase::Gathering
+            && seat.rule.enough(&senders_of(&self.memory.kept))
+            && let Some(best) = best_of_kept(&self.memory.kept)
+        {
+            self.propound(seat, best.reading);
         }
     }
 
     // Where it confirms and the acknowledgers are enough, decides.
-    fn confirmed<R: QuorumRule>(&mut self, rule: &R, p: ProcessId)
+    fn confirmed<R: QuorumRule>(&mut self, seat: &Seat<'_, R>)
         requires { used self.old + 10 ≤ 32 }
-        ensures { step self.new ≡ confirmed (R.QuorumRule.processes rule.now) p.number (R.QuorumRule.quorum rule.now) (step self.old) }
+        ensures { step self.new ≡ confirmed (R.QuorumRule.processes seat.now.rule.now) seat.now.id.number (R.QuorumRule.quorum seat.now.rule.now) (step self.old) }
     {
-        if let Phase::Confirming = self.memory.phase {
-            if rule.enough(&self.memory.acknowledgers) {
-                self.conclude(rule.size(), p);
-            }
+        if self.memory.phase == Phase::Confirming && seat.rule.enough(&self.memory.acknowledgers) {
+            self.conclude(seat);
         }
     }
 
     // The choice, and then the decision.
-    fn settle<R: QuorumRule>(&mut self, rule: &R, p: ProcessId)
+    #[tactic(auto, unfolding(crate::specs::Rounds::settle))]
+    fn settle<R: QuorumRule>(&mut self, seat: &Seat<'_, R>)
         requires { used self.old + 20 ≤ 32 }
-        ensures { step self.new ≡ settle (R.QuorumRule.processes rule.now) p.number (R.QuorumRule.quorum rule.now) (step self.old) }
+        ensures { step self.new ≡ settle (R.QuorumRule.processes seat.now.rule.now) seat.now.id.number (R.QuorumRule.quorum seat.now.rule.now) (step self.old) }
     {
-        self.gathered(rule, p);
-        self.confirmed(rule, p);
+        self.gathered(seat);
+        self.confirmed(seat);
     }
 
     // Begins a round.
     fn begin(&mut self, round: u32)
         requires { used self.old + 1 ≤ 32 }
-        ensures value { step self.new ≡ write 2 round 0 (remember (begin round) (step self.old)) }
+        ensures value { step self.new ≡ write CellName.Round round 0 (remember (begin round) (step self.old)) }
         ensures bound { used self.new ≡ used self.old + 1 }
     {
         self.memory.round = round;
         self.memory.epoch = None;
         self.memory.kept = [None; 9];
         self.memory.acknowledgers = [false; 9];
-        self.write(ROUND, round, 0);
+        self.write(CellName::Round, round, 0);
     }
 
     // The coordinator's part of an entry, without the settling.
-    fn lead(&mut self, n: u32, p: ProcessId, round: u32)
-        requires { (n ≤ 9) × (used self.old + n ≤ 32) }
-        ensures value { step self.new ≡ lead n p.number round (step self.old) }
-        ensures bound { used self.new ≤ used self.old + n }
+    fn lead<R: QuorumRule>(&mut self, seat: &Seat<'_, R>, round: u32)
+        requires { used self.old + 9 ≤ 32 }
+        ensures value { step self.new ≡ lead (R.QuorumRule.processes seat.now.rule.now) seat.now.id.number round (step self.old) }
+        ensures bound { used self.new ≤ used self.old + 9 }
     {
-        let reading = self.memory.reading;
         if self.memory.stamp == round {
-            self.memory.acknowledgers = only_of(p);
+            let reading = self.memory.reading;
+            self.memory.acknowledgers = seat.alone();
             self.memory.phase = Phase::Confirming;
-            self.broadcast(n, message_of(p, Kind::NewEstimate, round, reading, 0));
+            self.broadcast(seat, seat.message(Kind::NewEstimate, round, reading, 0));
         } else {
-            self.broadcast(n, message_of(p, Kind::NewRound, round, 0, 0));
-            self.memory.kept[p.number as usize - 1] = Some(Estimate {
-                sender: p.number,
-                reading: self.memory.reading,
-                stamp: self.memory.stamp,
+            self.broadcast(seat, seat.message(Kind::NewRound, round, 0, 0));
+            let Memory { reading, stamp, .. } = self.memory;
+            self.memory.kept[seat.id.place()] = Some(Estimate {
+                sender: seat.id.number,
+                reading,
+                stamp,
             });
             self.memory.phase = Phase::Gathering;
         }
     }
 
     // Acknowledges a round's choice to its coordinator.
-    fn acknowledge(&mut self, p: ProcessId, c: u32, round: u32)
-        requires { (1 ≤ c) × ((c ≤ 9) × (used self.old + 1 ≤ 32)) }
-        ensures value { step self.new ≡ send (addressed (ack p.number round) c) (step self.old) }
+    fn acknowledge<R: QuorumRule>(&mut self, seat: &Seat<'_, R>, coordinator: ProcessId, round: u32)
+        requires { used self.old + 1 ≤ 32 }
+        ensures value { step self.new ≡ send (addressed (ack seat.now.id.number round) coordinator.number) (step self.old) }
         ensures bound { used self.new ≡ used self.old + 1 }
     {
-        self.send(Message {
-            addressee: c,
-            ..message_of(p, Kind::Ack, round, 0, 0)
-        });
+        self.send(coordinator, seat.message(Kind::Ack, round, 0, 0));
     }
 
-    // Any other process's part of an entry; c is the coordinator.
-    fn follow(&mut self, p: ProcessId, c: u32, round: u32)
-        requires { (1 ≤ c) × ((c ≤ 9) × (used self.old + 1 ≤ 32)) }
-        ensures { step self.new ≡ follow p.number c round (step self.old) }
+    // Any other process's part of an entry.
+    fn follow<R: QuorumRule>(&mut self, seat: &Seat<'_, R>, coordinator: ProcessId, round: u32)
+        requires { used self.old + 1 ≤ 32 }
+        ensures { step self.new ≡ follow seat.now.id.number coordinator.number round (step self.old) }
     {
-        if self.memory.stamp == round {
-            self.acknowledge(p, c, round);
+        let Memory { reading, stamp, .. } = self.memory;
+        if stamp == round {
+            self.acknowledge(seat, coordinator, round);
             self.memory.phase = Phase::Acked;
         } else {
-            self.send(Message {
-                addressee: c,
-                ..message_of(
-                    p,
-                    Kind::Estimate,
-                    round,
-                    self.memory.reading,
-                    self.memory.stamp,
-                )
-            });
+            self.send(
+                coordinator,
+                seat.message(Kind::Estimate, round, reading, stamp),
+            );
             self.memory.phase = Phase::Waiting;
         }
     }
 
     // Enters a round.
-    fn enter<R: QuorumRule>(&mut self, rule: &R, p: ProcessId, round: u32)
+    fn enter<R: QuorumRule>(&mut self, seat: &Seat<'_, R>, round: u32)
         requires { used self.old + 30 ≤ 32 }
         ensures first { RoundFirst round (step self.old) (step self.new) }
-        ensures value { step self.new ≡ enter (R.QuorumRule.processes rule.now) p.number (R.QuorumRule.quorum rule.now) round (step self.old) }
+        ensures value { step self.new ≡ enter (R.QuorumRule.processes seat.now.rule.now) seat.now.id.number (R.QuorumRule.quorum seat.now.rule.now) round (step self.old) }
     {
         self.begin(round);
-        let n = rule.size();
-        let c = round % n + 1;
-        if p.number == c {
-            self.lead(n, p, round);
-            self.settle(rule, p);
+        let coordinator = ProcessId::coordinator_of(seat.rule, round);
+        if seat.id == coordinator {
+            self.lead(seat, round);
+            self.settle(seat);
         } else {
-            self.follow(p, c, round);
+            self.follow(seat, coordinator, round);
         }
     }
 
     // Keeps an estimate if none is kept from its sender.
-    fn keep(&mut self, message: Message)
-        requires { (1 ≤ message.sender) × (message.sender ≤ 9) }
-        ensures { step self.new ≡ remember (keep message) (step self.old) }
+    fn keep(&mut self, letter: Letter)
+        ensures { step self.new ≡ remember (keep letter.message) (step self.old) }
     {
-        let at = message.sender as usize - 1;
-        if self.memory.kept[at].is_none() {
-            self.memory.kept[at] = Some(Estimate {
-                sender: message.sender,
-                reading: message.reading,
-                stamp: message.stamp,
-            });
-        }
+        let Message {
+            sender,
+            reading,
+            stamp,
+            ..
+        } = letter.message;
+        let _ = self.memory.kept[letter.sender().place()].get_or_insert(Estimate {
+            sender,
+            reading,
+            stamp,
+        });
     }
 
     // Takes over the coordinator's reading: writes the pair, and acknowledges it.
-    fn accept(&mut self, p: ProcessId, message: Message)
-        requires { (1 ≤ message.sender) × ((message.sender ≤ 9) × (used self.old + 2 ≤ 32)) }
-        ensures { step self.new ≡ accept p.number message (step self.old) }
+    fn accept<R: QuorumRule>(&mut self, seat: &Seat<'_, R>, letter: Letter)
+        requires { used self.old + 2 ≤ 32 }
+        ensures { step self.new ≡ accept seat.now.id.number letter.message (step self.old) }
     {
         let round = self.memory.round;
-        self.memory.reading = message.reading;
+        self.memory.reading = letter.message.reading;
         self.memory.stamp = round;
-        self.write(PAIR, message.reading, round);
-        self.acknowledge(p, message.sender, round);
+        self.write(CellName::Pair, letter.message.reading, round);
+        self.acknowledge(seat, letter.sender(), round);
         self.memory.phase = Phase::Acked;
     }
 
     // What a message of the process's round does, by the phase and the kind together.
-    fn meet<R: QuorumRule>(&mut self, rule: &R, p: ProcessId, message: Message)
-        requires { (1 ≤ message.sender) × ((message.sender ≤ 9) × (used self.old + 20 ≤ 32)) }
-        ensures { step self.new ≡ meet (R.QuorumRule.processes rule.now) p.number (R.QuorumRule.quorum rule.now) message (step self.old) }
+    fn meet<R: QuorumRule>(&mut self, seat: &Seat<'_, R>, letter: Letter)
+        requires { used self.old + 20 ≤ 32 }
+        ensures { step self.new ≡ meet (R.QuorumRule.processes seat.now.rule.now) seat.now.id.number (R.QuorumRule.quorum seat.now.rule.now) letter.message (step self.old) }
     {
-        let c = self.memory.round % rule.size() + 1;
-        match (self.memory.phase, message.kind) {
+        let sender = letter.sender();
+        match (self.memory.phase, letter.message.kind) {
             (Phase::Gathering, Kind::Estimate) => {
-                self.keep(message);
-                self.settle(rule, p);
+                self.keep(letter);
+                self.settle(seat);
             }
             (Phase::Confirming, Kind::Ack) => {
-                self.memory.acknowledgers[message.sender as usize - 1] = true;
-                self.settle(rule, p);
+                self.memory.acknowledgers[sender.place()] = true;
+                self.settle(seat);
             }
-            (Phase::Waiting, Kind::NewEstimate) if message.sender == c => {
-                self.accept(p, message);
+            (Phase::Waiting, Kind::NewEstimate)
+                if sender == ProcessId::coordinator_of(seat.rule, self.memory.round) => {
+                self.accept(seat, letter);
             }
             _ => {}
         }
     }
 
     // Done: answers with the decision.
-    fn reply(&mut self, p: ProcessId, decision: Option<Content>, message: Message)
+    fn reply<R: QuorumRule>(
+        &mut self,
+        seat: &Seat<'_, R>,
+        decision: Option<Content>,
+        letter: Letter,
+    )
         requires { used self.old + 1 ≤ 32 }
-        ensures { step self.new ≡ reply p.number decision message (step self.old) }
+        ensures { step self.new ≡ reply seat.now.id.number decision letter.message (step self.old) }
     {
-        match (decision, message.kind) {
-            (None, _) => {}
-            (_, Kind::Decide) => {}
-            (Some(content), _) => self.post(Message {
-                addressee: message.sender,
-                ..message_of(p, Kind::Decide, 0, content.number, 0)
-            }),
+        if let Some(content) = decision
+            && letter.message.kind != Kind::Decide
+        {
+            let answer = seat.message(Kind::Decide, 0, content.number, 0);
+            self.post(letter.sender(), answer);
         }
     }
 
     // Takes a decision over.
-    fn learn(&mut self, message: Message)
+    fn learn(&mut self, letter: Letter)
         requires { used self.old + 1 ≤ 32 }
-        ensures { step self.new ≡ learn message (step self.old) }
+        ensures { step self.new ≡ learn letter.message (step self.old) }
     {
-        self.write(DECISION, message.reading, 0);
+        self.write(CellName::Decision, letter.message.reading, 0);
         self.memory.phase = Phase::Done;
     }
 
     // Hears a message, and lets it do its work if its round is the process's.
-    fn heed<R: QuorumRule>(&mut self, rule: &R, p: ProcessId, message: Message)
-        requires { (1 ≤ message.sender) × ((message.sender ≤ 9) × (used self.old + 20 ≤ 32)) }
-        ensures { step self.new ≡ heed (R.QuorumRule.processes rule.now) p.number (R.QuorumRule.quorum rule.now) message (step self.old) }
+    fn heed<R: QuorumRule>(&mut self, seat: &Seat<'_, R>, letter: Letter)
+        requires { used self.old + 20 ≤ 32 }
+        ensures { step self.new ≡ heed (R.QuorumRule.processes seat.now.rule.now) seat.now.id.number (R.QuorumRule.quorum seat.now.rule.now) letter.message (step self.old) }
     {
-        self.memory.heard = self.memory.heard.max(message.round);
-        if message.round == self.memory.round {
-            self.meet(rule, p, message);
+        let round = letter.message.round;
+        self.memory.heard = self.memory.heard.max(round);
+        if round == self.memory.round {
+            self.meet(seat, letter);
         }
     }
 
     // What a message does to its addressee, by whether it is done and whether it is told of a decision.
+    #[tactic(auto, unfolding(crate::specs::Meetings::deliver))]
     fn receive<R: QuorumRule>(
         &mut self,
-        rule: &R,
-        p: ProcessId,
+        seat: &Seat<'_, R>,
         decision: Option<Content>,
-        message: Message,
+        letter: Letter,
     )
-        requires { (1 ≤ message.sender) × ((message.sender ≤ 9) × (used self.old + 20 ≤ 32)) }
-        ensures { step self.new ≡ deliver (R.QuorumRule.processes rule.now) p.number (R.QuorumRule.quorum rule.now) decision message (step self.old) }
+        requires { used self.old + 20 ≤ 32 }
+        ensures { step self.new ≡ deliver (R.QuorumRule.processes seat.now.rule.now) seat.now.id.number (R.QuorumRule.quorum seat.now.rule.now) decision letter.message (step self.old) }
     {
-        match (self.memory.phase, message.kind) {
-            (Phase::Done, _) => self.reply(p, decision, message),
-            (_, Kind::Decide) => self.learn(message),
-            _ => self.heed(rule, p, message),
+        match (self.memory.phase, letter.message.kind) {
+            (Phase::Done, _) => self.reply(seat, decision, letter),
+            (_, Kind::Decide) => self.learn(letter),
+            _ => self.heed(seat, letter),
         }
     }
 
@@ -474,9 +436,7 @@ impl Turn {
     fn note(&mut self, epoch: Option<u32>)
         ensures { step self.new ≡ remember (note epoch) (step self.old) }
     {
-        if self.memory.epoch.is_none() {
-            self.memory.epoch = epoch;
-        }
+        self.memory.epoch = self.memory.epoch.or(epoch);
     }
 }
 
@@ -488,10 +448,10 @@ pub fn propose_turn<R: QuorumRule>(rule: &R, p: ProcessId, memory: Memory, readi
     ensures lawful { (among : ℕ) → R.QuorumRule.processes rule.now ≤ among → p.number ≤ R.QuorumRule.processes rule.now → Lawful ((memory_fits among p.number memory ≡ true) × (is_reading reading ≡ true)) among p.number 28 (step result) }
 {
     let mut turn = Turn::start(memory);
-    turn.write(PROPOSAL, reading, 0);
+    turn.write(CellName::Proposal, reading, 0);
     turn.memory.reading = reading;
     turn.memory.stamp = 0;
-    turn.enter(rule, p, 1);
+    turn.enter(&Seat { rule, id: p }, 1);
     turn
 }
 
@@ -507,9 +467,10 @@ pub fn recover_turn<R: QuorumRule>(rule: &R, p: ProcessId, cells: OwnCells) -> T
         }
         (None, None) => {}
         (None, Some(proposal)) => {
-            turn.memory.reading = number_of(cells.pair, proposal.number);
-            turn.memory.stamp = stamp_of(cells.pair);
-            turn.enter(rule, p, number_of(cells.round, 1));
+            turn.memory.reading = cells.pair.map_or(proposal.number, |pair| pair.number);
+            turn.memory.stamp = cells.pair.map_or(0, |pair| pair.stamp);
+            let round = cells.round.map_or(1, |round| round.number);
+            turn.enter(&Seat { rule, id: p }, round);
         }
     }
     turn
@@ -531,10 +492,8 @@ pub fn look_turn<R: QuorumRule>(
     }
     let epoch = coordinator_epoch(rule, list, memory.round);
     if must_go(epoch, &memory) {
-        let Some(round) = find_next(rule, list, &memory) else {
-            return Err(NoRound);
-        };
-        turn.enter(rule, p, round);
+        let round = find_next(rule, list, &memory).ok_or(NoRound)?;
+        turn.enter(&Seat { rule, id: p }, round);
         return Ok(turn);
     }
     turn.note(epoch);
@@ -555,7 +514,11 @@ pub fn deliver_turn<R: QuorumRule>(
     ensures once { KeptOnce letter.message memory result.memory }
 {
     let mut turn = Turn::start(memory);
-    turn.receive(rule, letter.addressee(), decision, letter.message);
+    let seat = Seat {
+        rule,
+        id: letter.addressee(),
+    };
+    turn.receive(&seat, decision, letter);
     turn
 }
 

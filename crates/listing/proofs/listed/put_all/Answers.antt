@@ -1,35 +1,35 @@
-use Rattle.std.proofs.Common.{◌+◌, false, take, is_ok, None, Ok, sym, ap, ◌∙◌, arith}
-use Rattle.listing.proofs.Listings.{listing_empty, listing_full, listing_is, listing_more, listing_skip}
-use Rattle.std.proofs.lemmas.List.{get_or_read}
+use Rattle.std.proofs.Common.{◌≡◌, true, is_none, is_ok, ap, sym, ◌∙◌, rules}
+use Rattle.listing.specs.Lists.{vacant}
+use Rattle.listing.proofs.Listings.{listing_all, listing_more, slot_gives}
+use Rattle.std.proofs.lemmas.Iterator.{YieldsList-from_slice}
+use Rattle.std.proofs.lemmas.Iterator.Adapters.{YieldsList-from_flatten}
+use Rattle.std.proofs.lemmas.Iterator.Consumers.{YieldsList-at, YieldsList-end}
+use Rattle.std.proofs.lemmas.Iterator.Search.{all_from_yields_List}
+use Rattle.std.specs.Option.{option_to_list}
+use borrow.Author.Tests.{tests}
 use Rattle.listing.proofs.listed.put_all.Goals as goal
-use Rattle.listing.proofs.listed.put_all.Goals.{in-Some+in_ok-put, in_default}
 
-pub loop-slot-preserved : goal.loop-slot-preserved
-loop-slot-preserved g c =
-    let text = g.T.Written.text in
-    let took = g.W.Write.write_str_gives in
-    let xs = c.args.slots.now in
-    let i = c.loop-slot.slot-index in
-    let item = get_or_read xs i c.slot-item.result c.loop-slot-test.true c.slot-item.is None in
-    elim c.match-slot.branch [
-      | in-Some+in_ok-put w ↦
-          listing_is text took (take (i + 1) xs) false c.match-slot.vacant c.args.f.now w.put.new.f c.match-slot.f
-          (listing_more text took xs i c.loop-slot.vacant c.args.f.now c.loop-slot.f w.put.new.f w.in-Some.x w.put.result
-          c.loop-slot.invariant c.loop-slot-test.true (sym item ∙ w.in-Some.is) (ap is_ok w.in_ok-put.was) w.put.ensures)
-          w.vacant-is w.f-is
-      | in_default w ↦
-          listing_is text took (take (i + 1) xs) c.loop-slot.vacant c.match-slot.vacant c.args.f.now c.loop-slot.f c.match-slot.f
-          (listing_skip text took xs i c.loop-slot.vacant c.args.f.now c.loop-slot.f c.loop-slot.invariant c.loop-slot-test.true
-          (sym item ∙ w.in_default.is))
-          w.vacant-is w.f-is
-    ]
+pub returns-then-all : goal.returns-then-all
+returns-then-all g c =
+    let v : c.all.result ≡ vacant c.args.slots.now =
+    all_from_yields_List is_none _ _ _ c.all.ensures.ran (YieldsList-from_slice c.args.slots.now cc) (λ x b q k. search (rules, tests)) in
+    let t : vacant c.args.slots.now ≡ true = sym v ∙ c.if-all.true in
+    rw t c.write_str.ensures.writes
 
-pub returns-then-vacant : goal.returns-then-vacant
-returns-then-vacant g c =
-    listing_empty g.T.Written.text g.W.Write.write_str_gives c.args.slots.now c.loop-slot.slot-index c.args.f.now c.loop-slot.f c.write_str.new.self
-    c.write_str.result (sym c.if-vacant.true ∙ c.loop-slot.invariant.0, c.loop-slot.invariant.1) (omega arith) c.write_str.ensures.writes
+pub loop-x-preserved : goal.loop-x-preserved
+loop-x-preserved g c =
+    listing_more g.T.Written.text g.W.Write.write_str_gives c.loop-x.yielded c.in-Some.x c.args.f.now c.loop-x.f c.put.new.f c.put.result
+    c.loop-x.invariant (ap is_ok c.in_ok-put.was) c.put.ensures
 
-pub returns-else-vacant : goal.returns-else-vacant
-returns-else-vacant g c =
-    listing_full g.T.Written.text g.W.Write.write_str_gives c.args.slots.now c.loop-slot.slot-index c.args.f.now c.loop-slot.f (Ok tt)
-    (sym c.if-vacant.false ∙ c.loop-slot.invariant.0, c.loop-slot.invariant.1) (omega arith)
+pub returns : goal.returns
+returns g c =
+    let v : c.all.result ≡ vacant c.args.slots.now =
+    all_from_yields_List is_none _ _ _ c.all.ensures.ran (YieldsList-from_slice c.args.slots.now cc) (λ x b q k. search (rules, tests)) in
+    let seen = YieldsList-end
+    (YieldsList-at c.into_iter-x-iterator.ensures.into_iter_gives
+    (YieldsList-from_flatten _ _ (λ x. x.now) option_to_list (λ x j b. slot_gives x.now b.0 b.1)
+    (YieldsList-at c.flatten-x-items.ensures.source (YieldsList-from_slice c.args.slots.now cc))
+    c.flatten-x-items.ensures.front c.flatten-x-items.ensures.back c.flatten-x-items.ensures.done))
+    c.loop-x.yielded _ c.loop-x.yielded_by _ _ c.in-None.is c.next.ensures.steps in
+    λ p o. listing_all g.T.Written.text g.W.Write.write_str_gives c.args.slots.now c.loop-x.yielded c.args.f.now c.loop-x.f
+    c.loop-x.invariant seen.0 (sym c.if-all.false ∙ v) p

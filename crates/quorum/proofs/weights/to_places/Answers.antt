@@ -1,30 +1,17 @@
-use Rattle.std.proofs.Common.{◌≡◌, ℕ, List, [], ◌∷◌, ◌++◌, length, get_or, take, sym, ap, ◌∙◌, arith}
-use Rattle.std.proofs.lemmas.List.{take_more, take_more_set, take_all, length-set}
-use Rattle.std.proofs.lemmas.Bool.{and_from, le-leb}
-use Rattle.quorum.specs.Rules.{light}
-use Rattle.quorum.specs.Weighing.{light_more, light_not}
+use Rattle.std.proofs.Common.{◌<◌, length, sym, ◌∙◌, nat_le, arith}
+use Rattle.std.proofs.lemmas.List.{ext_get_or, get_or-take, length-take}
+use Rattle.std.proofs.lemmas.List.Sums.{list_all-from_AllPass}
+use Rattle.std.proofs.lemmas.Grind.{get_or_default_zero}
+use Rattle.std.proofs.lemmas.Bool.{le-leb}
 use Rattle.quorum.proofs.weights.to_places.Goals as goal
 
-pub returns-then-w-gt-MAX_WEIGHT : goal.returns-then-w-gt-MAX_WEIGHT
-returns-then-w-gt-MAX_WEIGHT c =
-    record { test = sym (light_not c.args.weights.now c.loop-i.i (omega arith) (omega arith)); kept = tt }
-
-pub loop-i-preserved : goal.loop-i-preserved
-loop-i-preserved c =
+pub returns-clause-test : goal.returns-clause-test
+returns-clause-test c =
     let ws = c.args.weights.now in
-    let i = c.loop-i.i in (
-      take_more_set c.loop-i.each i (get_or ws i 0) (omega arith)
-          ∙ (ap (λ (l : List ℕ). l ++ get_or ws i 0 ∷ []) c.loop-i.invariant.0 ∙ sym (take_more ws i 0 (omega arith))),
-      light_more ws i (omega arith) ∙ and_from _ _ c.loop-i.invariant.1 (le-leb _ _ (omega arith)),
-      length-set _ _ _ ∙ c.loop-i.invariant.2,
-    )
+    sym (list_all-from_AllPass (λ w. nat_le w 99) ws (λ k d h. rw (get_or_default_zero ws k d h) (le-leb _ _ (c.loop-i.invariant.2 k (omega arith)))))
 
-pub returns : goal.returns
-returns c =
-    let ws = c.args.weights.now in
-    let e : c.loop-i.i ≡ length ws = omega arith in
-    let all : take c.loop-i.i ws ≡ ws = take_all _ ws (omega arith) in
-    record {
-      test = sym (ap light (sym all) ∙ c.loop-i.invariant.1);
-      kept = ap (λ (n : ℕ). take n c.loop-i.each) (sym e) ∙ (c.loop-i.invariant.0 ∙ all);
-    }
+pub returns-clause-kept : goal.returns-clause-kept
+returns-clause-kept c =
+    ext_get_or 0 _ _ (simp length-take (omega arith))
+    (λ k h. let k' : k < length c.args.weights.now = omega (arith, simp length-take at h) in
+    get_or-take _ c.loop-i.each k 0 k' ∙ c.loop-i.invariant.1 k (omega arith))

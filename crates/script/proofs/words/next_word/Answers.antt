@@ -1,6 +1,5 @@
 use Rattle.std.proofs.Common.{◌-◌, ◌<◌, false, length, take, drop, ap, ◌∙◌, arith, length-drop, rules}
-use Rattle.script.specs.Words.{run}
-use Rattle.script.proofs.Splits.{begins_at, none_left, split_first}
+use Rattle.script.proofs.Splits.{begins_at, none_left, run, split_first}
 use Rattle.std.proofs.lemmas.List.{take_rest}
 use Rattle.script.proofs.words.next_word.Goals as goal
 

@@ -1,26 +1,19 @@
-use Rattle.std.proofs.Common.{◌<◌, sym, refl, arith, rules}
-use Rattle.tray.proofs.Places.{element_none, element_some, without_none}
-use Rattle.tray.proofs.Shift.{shifted_none, shifted_more, shifted_all}
+use Rattle.std.proofs.Common.{sym, arith}
+use Rattle.tray.proofs.Places.{element_within, without_none, moved_down}
 use Rattle.tray.proofs.Tray.take_out.Goals as goal
-use Rattle.tray.proofs.Tray.take_out.Goals.{then-place-eq0-via-then-place-eq0, then-place-eq0-via-else-place-eq0+then-place-self}
 
-pub returns-then-place-eq0 : goal.returns-then-place-eq0
-returns-then-place-eq0 g c =
-    let h : 0 < c.args.place → c.args.self.now.len < c.args.place = elim c.then-place-eq0.branch
-    [ then-place-eq0-via-then-place-eq0 w ↦ omega arith | then-place-eq0-via-else-place-eq0+then-place-self w ↦ omega arith ] in
-    record { value = sym (element_none _ _ c.args.place h); list = sym (without_none _ _ c.args.place h); room = refl; named = refl }
+pub returns-in_err-x-clause-list : goal.returns-in_err-x-clause-list
+returns-in_err-x-clause-list g c = sym (without_none _ _ c.in_err-x.ensures)
 
-pub loop-k-init : goal.loop-k-init
-loop-k-init g c = (shifted_none _ _ _ (omega arith) (omega arith), refl, refl)
+pub copy_within-requires-clause-start_le_end : goal.copy_within-requires-clause-start_le_end
+copy_within-requires-clause-start_le_end g c =
+    omega (arith, element_within c.args.self.now.slots.now c.args.self.now.len c.args.place c.in_ok-x.x c.in_ok-x.ensures)
 
-pub loop-k-preserved : goal.loop-k-preserved
-loop-k-preserved g c = (shifted_more _ _ _ _ _ c.loop-k.invariant.0 (omega arith) (omega arith) (search rules), c.loop-k.invariant.1, c.loop-k.invariant.2)
+pub copy_within-requires-clause-dest_in_bounds : goal.copy_within-requires-clause-dest_in_bounds
+copy_within-requires-clause-dest_in_bounds g c =
+    omega (arith, element_within c.args.self.now.slots.now c.args.self.now.len c.args.place c.in_ok-x.x c.in_ok-x.ensures, c.args.self.now.fits)
 
-pub returns : goal.returns
-returns g c =
-    record {
-      value = sym (element_some c.args.self.now.slots.now _ c.args.place _ (omega arith) (omega arith) c.args.self.now.fits (search rules));
-      list = shifted_all _ _ c.args.place c.loop-k.k _ c.loop-k.invariant.0 (omega arith) (omega arith);
-      room = c.loop-k.invariant.0.2;
-      named = c.loop-k.invariant.2;
-    }
+pub returns-clause-list : goal.returns-clause-list
+returns-clause-list g c =
+    let (low, high) = element_within _ _ _ _ c.in_ok-x.ensures in
+    rw c.copy_within.ensures.after (moved_down _ _ _ low high c.args.self.now.fits)

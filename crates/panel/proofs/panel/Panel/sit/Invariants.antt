@@ -5,7 +5,7 @@ use Rattle.panel.proofs.panel.Panel.sit.Given as goal
 
 abbrev pub invariant-loop-i : goal.invariant-loop-i
 invariant-loop-i g l =
-    let state = state_in g.R.QuorumRule.processes g.R.QuorumRule.quorum g.S.Store.cells in
+    let state = state_in g.R.QuorumRule g.S.Store in
     let start = state l.initial.self l.initial.tray in
     let made = take l.i l.calls in
     (state l.self l.tray ≡ final made start)

@@ -1,23 +1,26 @@
-use Rattle.std.proofs.Common.{refl}
-use Rattle.process.specs.Turns.{step}
+use Rattle.std.proofs.Common.{◌≡◌, ℕ, Bool, true, eqb, List, sym, ap, ◌∙◌, rules}
+use Rattle.std.proofs.lemmas.Bool.{cond-true}
+use Rattle.process.specs.Rounds.{Step, begin, coordinator, enter, lead, remember, settle, write}
 use Rattle.process.proofs.Deliveries.{enter_first}
-use Rattle.process.proofs.Entries.{entered_leads, entered_follows}
 use Rattle.process.proofs.turn.Turn.enter.Goals as goal
+use Rattle.store.specs.declared.content.CellName.TheVariants as CellName
 
-pub returns-then-p-c : goal.returns-then-p-c
-returns-then-p-c g c =
-    let a = c.args in
-    let n = g.R.QuorumRule.processes a.rule.now in
-    let enough = g.R.QuorumRule.quorum a.rule.now in
-    let value = entered_leads n c.size-n.result a.p.number a.round _ enough (step a.self.now) _ _ (step c.settle.new.self)
-    c.size-n.ensures refl c.if-p-c.true c.begin.ensures.value c.lead.ensures.value c.settle.ensures in
-    record { first = enter_first n a.p.number enough a.round (step a.self.now) (step c.settle.new.self) value; value = value }
+leads : (n p r c : ℕ) (enough : List Bool → Bool) (s t u v : Step) → c ≡ coordinator n r → eqb p c ≡ true
+    → t ≡ write CellName.Round r 0 (remember (begin r) s) → u ≡ lead n p r t → v ≡ settle n p enough u → v ≡ enter n p enough r s
+unfolding enter
+leads n p r c enough s t u v is same begun led settled =
+    settled ∙ ap (settle n p enough) (led ∙ ap (lead n p r) begun) ∙ sym (cond-true (eqb p (coordinator n r)) _ _ (sym (ap (eqb p) is) ∙ same))
 
-pub returns-else-p-c : goal.returns-else-p-c
-returns-else-p-c g c =
-    let a = c.args in
-    let n = g.R.QuorumRule.processes a.rule.now in
-    let enough = g.R.QuorumRule.quorum a.rule.now in
-    let value = entered_follows n c.size-n.result a.p.number a.round _ enough (step a.self.now) (step c.begin.new.self) (step c.begin.new.self) (step c.follow.new.self)
-    c.size-n.ensures refl c.if-p-c.false c.begin.ensures.value c.follow.ensures in
-    record { first = enter_first n a.p.number enough a.round (step a.self.now) (step c.follow.new.self) value; value = value }
+pub returns-then-eq-clause-value : goal.returns-then-eq-clause-value
+returns-then-eq-clause-value g c =
+    leads _ _ _ _ _ _ _ _ _ c.coordinator_of-coordinator.ensures (sym c.eq.ensures ∙ c.if-eq.true) c.begin.ensures.value c.lead.ensures.value c.settle.ensures
+
+pub returns-then-eq-clause-first : goal.returns-then-eq-clause-first
+returns-then-eq-clause-first g c = enter_first _ _ _ _ _ _ (returns-then-eq-clause-value g c)
+
+pub returns-else-eq-clause-value : goal.returns-else-eq-clause-value
+unfolding enter
+returns-else-eq-clause-value g c = search rules
+
+pub returns-else-eq-clause-first : goal.returns-else-eq-clause-first
+returns-else-eq-clause-first g c = enter_first _ _ _ _ _ _ (returns-else-eq-clause-value g c)

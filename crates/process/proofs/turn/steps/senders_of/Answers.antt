@@ -1,9 +1,14 @@
-use Rattle.std.proofs.Common.{arith, rules}
-use Rattle.process.proofs.Slots.{senders_more, senders_all}
+use Rattle.std.proofs.Common.{◌≡◌, length, get_or, is_some, None, sym, ◌∙◌, arith, rules}
+use Rattle.std.proofs.lemmas.List.{same_lists, get_or-map, length-map}
+use Rattle.process.specs.Rounds.{senders}
 use Rattle.process.proofs.turn.steps.senders_of.Goals as goal
 
-pub loop-i-preserved : goal.loop-i-preserved
-loop-i-preserved c = (search rules, senders_more c.args.estimates.now c.loop-i.i c.loop-i.set c.is_some.result (omega arith) (omega arith) c.loop-i.invariant.1 c.is_some.ensures)
-
 pub returns : goal.returns
-returns c = senders_all c.args.estimates.now c.loop-i.i c.loop-i.set (omega arith) (omega arith) c.loop-i.invariant.1
+returns c =
+    let ks = c.args.estimates.now in
+    let nine : length ks ≡ 9 = search rules in
+    same_lists c.map.result (senders ks) (search (rules, length-map))
+    (λ k d l.
+    let (p, q, called) = c.map.ensures.items.at k None d (omega (arith, c.map.ensures.items.long)) in
+    let one : get_or c.map.result k d ≡ is_some (get_or ks k None) = search rules in
+    one ∙ sym (get_or-map is_some ks k None d (omega (arith, c.map.ensures.items.long))))

@@ -1,18 +1,14 @@
-use Rattle.std.proofs.Common.{Ok, sym, ap, ◌∙◌, arith}
-use Rattle.std.proofs.lemmas.Bool.{cond-true}
-use Rattle.store.proofs.Rows.{index_known}
-use Rattle.printed.proofs.Kept.{never_wrong, read_right}
+use Rattle.std.proofs.lemmas.Result.{MatchResult-at_ok}
+use Rattle.printed.proofs.Kept.{is_read, read_right}
 use Rattle.printed.proofs.printed_store.methods.PrintedStoreStore.read.Goals as goal
 
-pub unreachable-requires : goal.unreachable-requires
-unreachable-requires c =
+pub unwrap-requires : goal.unwrap-requires
+unwrap-requires c =
     let s = c.args.self.now in
-    never_wrong s.text.bytes.now c.args.process c.args.cell c.in_ok-k.k _ (s.long, s.shown, s.sound)
-    c.in_ok-k.ensures (omega arith) _ _ c.in-Err.ensures
+    is_read s.bytes.now c.as_chunks.result.0.now c.args.process c.args.cell c.in_ok-k.k (s.long, s.shown, s.sound) c.in_ok-k.ensures c.as_chunks.ensures.front 0 _ c.read_line.ensures
 
 pub returns : goal.returns
 returns c =
     let s = c.args.self.now in
-    let there = (index_known c.args.process c.args.cell _ c.in_ok-k.ensures).0 in
-    ap Ok (read_right s.text.bytes.now c.args.process c.args.cell c.in_ok-k.k _ (s.long, s.shown, s.sound)
-    c.in_ok-k.ensures (omega arith) c.in-Ok.content c.in-Ok.ensures) ∙ sym (cond-true _ _ _ there)
+    read_right s.bytes.now c.as_chunks.result.0.now c.args.process c.args.cell c.in_ok-k.k (s.long, s.shown, s.sound) c.in_ok-k.ensures c.as_chunks.ensures.front c.unwrap.result
+    (MatchResult-at_ok _ _ _ c.unwrap.ensures c.read_line.ensures)
