@@ -28,9 +28,6 @@ returns-in_err-n c =
       ),
     )
 
-pub append-requires : goal.append-requires
-append-requires c = eight_figures c.loop-i.n c.loop-i.i c.loop-i.invariant.1 (search rules)
-
 pub overflow_mul-result : goal.overflow_mul-result
 overflow_mul-result c = let h = eight_figures c.loop-i.n c.loop-i.i c.loop-i.invariant.1 (search rules) in search rules
 
