@@ -1,5 +1,5 @@
 //! The majority of n processes.
-ghost use Rattle.std.specs.Prelude.{◌≡◌, ◌≤◌, take, is_ok, IfOk};
+ghost use Rattle.std.specs.Prelude.{◌≡◌, ◌≤◌, length, is_ok, IfOk};
 ghost use Rattle.quorum.specs.Rules.{members, majority, is_size};
 ghost use Rattle.quorum.specs.Weighing.{majority_shares, majority_grows, majority_whole};
 
@@ -14,14 +14,12 @@ pub struct Majority {
     ghost high: { n ≤ 9 },
 }
 
-// How many of the first n processes are members of the set.
-fn count_members(set: &ProcessSet, n: u32) -> usize
-    ensures { result ≡ members (take n set.now) }
+// How many members the set has. By a sum: `filter` and `count` branch on each process, which costs twice as much.
+fn count_members(set: &[bool]) -> u32
+    requires { length set.now ≤ 9 }
+    ensures { result ≡ members set.now }
 {
-    set.iter()
-        .take(n as usize)
-        .filter(|member| **member)
-        .count()
+    set.iter().map(|member| u32::from(*member)).sum()
 }
 
 impl Majority {
@@ -55,6 +53,6 @@ impl QuorumRule for Majority {
     }
 
     fn enough(&self, set: &ProcessSet) -> bool {
-        (self.n as usize) < 2 * count_members(set, self.n)
+        self.n < 2 * count_members(&set[..self.n as usize])
     }
 }

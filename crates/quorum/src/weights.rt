@@ -19,16 +19,16 @@ pub struct Weights {
     ghost heavy: { 0 < total (take n each) },
 }
 
-// What the members of the set weigh together.
+// What the members of the set weigh together. By products: a `filter` branches on each process, which costs twice
+// as much.
 fn weigh(weights: &[u8], set: &ProcessSet) -> u32
     requires { length weights.now ≤ 9 }
     ensures { result ≡ weight weights.now set.now }
 {
     weights
         .iter()
-        .zip(set)
-        .filter(|(_, member)| **member)
-        .map(|(w, _)| u32::from(*w))
+        .zip(&set[..weights.len()])
+        .map(|(w, member)| u32::from(*w) * u32::from(*member))
         .sum()
 }
 

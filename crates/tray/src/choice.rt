@@ -11,15 +11,15 @@ use super::preference::Preference;
 pub fn best<T: Preference>(items: &[T]) -> Option<usize>
     ensures { Best T.Preference.prefers items.now result }
 {
-    let mut top = items.first()?;
-    let mut place = 1;
-    for (i, x) in items.iter().enumerate() {
-        if !top.at_least(x) {
-            top = x;
-            place = i + 1;
+    items.first()?;
+    // By the index: with a reference to the best so far, each step waits for the choice of the one before.
+    let mut top = 0;
+    for i in 1..items.len() {
+        if !items[top].at_least(&items[i]) {
+            top = i;
         }
     }
-    Some(place)
+    Some(top + 1)
 }
 
 // The best element of a tray.

@@ -40,7 +40,8 @@ impl<'a, T: Copy> Tray<'a, T> {
     pub fn at(&self, place: usize) -> Option<T>
         ensures { result ≡ element (items self.now) place }
     {
-        self.as_slice().get(place.checked_sub(1)?).copied()
+        // Place 0 wraps to an index that no slice has.
+        self.as_slice().get(place.wrapping_sub(1)).copied()
     }
 
     // Puts an element at the end; a full tray stays as it is.

@@ -1,10 +1,7 @@
-use Rattle.std.proofs.Common.{◌≡◌, ◌-◌, ◌≤◌, max, get_or}
 use Rattle.std.specs.List.{IsFirstBest}
 use Rattle.tray.proofs.First.{beats}
 use Rattle.tray.proofs.choice.best.Given as goal
 
--- at the start the first element is the best of the first
+-- the place is the best of the first i
 abbrev pub invariant-loop-i : goal.invariant-loop-i
-invariant-loop-i g l =
-    IsFirstBest (beats g.T.Preference.prefers) l.items (max l.i 1) (l.place - 1) × (1 ≤ l.place)
-    × (l.top ≡ get_or l.items (l.place - 1) l.top)
+invariant-loop-i g l = IsFirstBest (beats g.T.Preference.prefers) l.items l.i l.top
