@@ -51,12 +51,12 @@ impl Table {
         self.records[p.place()]
     }
 
-    // What a process remembers, if it is up.
-    fn up(&self, p: ProcessId) -> Result<Memory, Refusal>
-        ensures value { let y = slice_index_or self.now.records (p.number - 1) Down in MatchResult result (λ m. y ≡ Up m) (λ e. (e ≡ ProcessDown) × (y ≡ Down)) }
-        ensures fits { IfOk result (λ m. memory_fits 9 p.number m ≡ true) }
+    // What a process remembers, if it is up: lent, since a memory is half a kilobyte, and a refused call needs no copy.
+    fn up(&self, p: ProcessId) -> Result<&Memory, Refusal>
+        ensures value { let y = slice_index_or self.now.records (p.number - 1) Down in MatchResult result (λ m. y ≡ Up m.now) (λ e. (e ≡ ProcessDown) × (y ≡ Down)) }
+        ensures fits { IfOk result (λ m. memory_fits 9 p.number m.now ≡ true) }
     {
-        match self.get(p) {
+        match &self.records[p.place()] {
             Status::Up(memory) => Ok(memory),
             Status::Down => Err(Refusal::ProcessDown),
         }

@@ -118,7 +118,7 @@ module _ (n : ℕ) (list : List (Option ℕ)) (m : Memory) (some : 1 ≤ n) wher
   least_next = least_from (best_of prefers_round window) (chosen_best prefers_round round_total round_transitive window)
 
   -- where the window lies beyond the last round
-  none_fits : 999999 < start → (q : ℕ) → test q ≡ false
+  pub none_fits : 999999 < start → (q : ℕ) → test q ≡ false
   none_fits h q = grind (arith, nat_tests)
 
   pub none_next : 999999 < start → None ≡ next_round n list m

@@ -1,12 +1,12 @@
 -- Lists with a slot for each process: the loops over what is there, and a memory of defaults.
-use Rattle.std.proofs.Common.{◌≡◌, ℕ, ◌<◌, ◌≤◌, Bool, false, List, [], ◌∷◌, ◌++◌, length, map, replicate, Some, None, Option, sym, refl, ap, ◌∙◌, subst, arith, rules}
+use Rattle.std.proofs.Common.{◌≡◌, ℕ, ◌+◌, ◌<◌, ◌≤◌, Bool, false, List, [], ◌∷◌, ◌++◌, length, get_or, replicate, take, Some, None, Option, sym, refl, ap, ◌∙◌, subst, arith, rules}
 use denote.Bor.{Bor}
 use Rattle.std.proofs.iter.Next.{Yields-more}
 use Rattle.std.proofs.iter.Yields.{fronts}
 use Rattle.std.proofs.lemmas.Iterator.{YieldsList, YieldsList-from_slice}
 use Rattle.std.proofs.lemmas.Iterator.Adapters.{YieldsList-from_flatten}
 use Rattle.std.proofs.lemmas.Iterator.Consumers.{YieldsList-so_far}
-use Rattle.std.proofs.lemmas.List.{same_lists, length_push, length-map, length-take, length-replicate, get_or-replicate}
+use Rattle.std.proofs.lemmas.List.{flat_map_more, same_lists, length_push, length-append, length-map, length-take, length-replicate, get_or-replicate, take_more}
 use Rattle.std.proofs.lemmas.Option.{none-some, same_Some}
 use Rattle.std.specs.Array.{AllOfLen}
 use Rattle.std.specs.Bool.{MatchBool}
@@ -18,7 +18,6 @@ use Rattle.std.specs.Slice.Iter.{iter_rest}
 use Rattle.tray.specs.declared.kinds.Estimate.{Estimate}
 use Rattle.process.specs.declared.message.Message.{Message}
 use Rattle.process.specs.declared.memory.Action.{Action}
-use Rattle.process.specs.declared.memory.Action.TheVariants.{Send}
 use Rattle.process.specs.declared.memory.Memory.{Memory}
 use Rattle.process.specs.declared.memory.Phase.{Phase}
 use Rattle.process.specs.Meetings.{resend}
@@ -58,11 +57,18 @@ more_to_come {steps = steps} {v = v} {s = s} {all = all} gives xs t x u came nex
     let so = YieldsList-so_far gives (xs ++ x ∷ []) u (Yields-more steps s xs t x u came next) in
     omega (arith, ap length so, length_push xs x, length-map (xs ++ x ∷ []) v, length-take (length (xs ++ x ∷ [])) all)
 
--- what is there, sent
-pub resent : (os : List (Option Message)) → map (λ m. Send m) (flat_map option_to_list os) ≡ flat_map resend os
-resent [] = refl
-resent (None ∷ os) = resent os
-resent (Some m ∷ os) = ap (λ (l : List Action). Send m ∷ l) (resent os)
+resend_short : (o : Option Message) → length (resend o) ≤ 1
+resend_short None = omega arith
+resend_short (Some m) = omega arith
+
+-- one slot more of the last messages: what a turn of the loop did
+module _ (last : List (Option Message)) (i : ℕ) (old new : List Action) (o : Option Message) (within : i < length last) (is : get_or last i None ≡ o)
+    (so : old ≡ flat_map resend (take i last)) (short : length old ≤ i) (step : new ≡ old ++ resend o) where
+  pub resends_more : (new ≡ flat_map resend (take (i + 1) last)) × (length new ≤ i + 1)
+  resends_more = (
+    step ∙ ap (λ l. l ++ resend o) so ∙ flat_map_more resend [] (take i last) o ∙ ap (flat_map resend) (sym (take_more last i None within ∙ ap (λ x. take i last ++ (x ∷ [])) is)),
+    rw step (simp length-append (omega (arith, resend_short o))),
+  )
 
 -- a list of defaults
 replicate_of : {A : Type 0} (x : A) (xs : List A) (n : ℕ) → AllOfLen (λ y. y ≡ x) xs n → xs ≡ replicate n x

@@ -5,7 +5,10 @@ ghost use Rattle.agreement.specs.Calls.{again_of, allowed, crash_of, cut_fits, d
 ghost use Rattle.tray.specs.declared.Tray.{Tray as Waiting};
 ghost use Rattle.process.specs.declared.message.Message.{Message};
 ghost use Rattle.process.specs.declared.memory.Status.TheVariants.{Down, Up};
-ghost use Rattle.process.specs.Ranges.{act_fits, every};
+ghost use Rattle.process.specs.Meetings.{deliver};
+ghost use Rattle.process.specs.Messages.{well_formed};
+ghost use Rattle.process.specs.Ranges.{act_fits, every, memory_fits};
+ghost use Rattle.process.specs.Rounds.{still};
 ghost use Rattle.process.specs.Turns.{step};
 ghost use Rattle.store.specs.CellNames.{cell_number};
 ghost use Rattle.panel.specs.Panels.{outcome_in, state_in};
@@ -96,16 +99,17 @@ impl<S: Store, R: QuorumRule> Panel<S, R> {
         ProcessId::new(&self.rule, p).ok_or(Refusal::NoSuchProcess)
     }
 
-    // Performs what a step planned, as far as the cut goes, and writes the record back.
+    // Performs what a step planned, as far as the cut goes, and writes the record back. The step is lent: by value its
+    // one and a half kilobytes would be copied once more.
     fn finish(
         &mut self,
         tray: &mut Tray<Message>,
         p: ProcessId,
         cut: Option<u32>,
-        turn: Turn,
+        turn: &Turn,
     ) -> u32
-        requires { (length (step turn).acts ≤ 32) × ((every (act_fits 9 p.number) (step turn).acts ≡ true) × (status_fits p.number (Up (step turn).memory) ≡ true)) }
-        ensures { outcome_in R.QuorumRule S.Store (Ok result) self.new tray.new ≡ finished p.number cut (step turn) (state_in R.QuorumRule S.Store self.old tray.old) }
+        requires { (length (step turn.now).acts ≤ 32) × ((every (act_fits 9 p.number) (step turn.now).acts ≡ true) × (status_fits p.number (Up (step turn.now).memory) ≡ true)) }
+        ensures { outcome_in R.QuorumRule S.Store (Ok result) self.new tray.new ≡ finished p.number cut (step turn.now) (state_in R.QuorumRule S.Store self.old tray.old) }
     {
         let actions = turn.plan.actions();
         let k = allow(cut, actions.len());
@@ -143,7 +147,10 @@ impl<S: Store, R: QuorumRule> Panel<S, R> {
         match memory.phase {
             Phase::Done => Err(Refusal::ProcessDone),
             Phase::Idle => Err(Refusal::ProcessIdle),
-            _ => Ok(self.finish(tray, id, cut, again_turn(memory))),
+            _ => {
+                let turn = again_turn(*memory);
+                Ok(self.finish(tray, id, cut, &turn))
+            }
         }
     }
 
@@ -173,18 +180,19 @@ impl<S: Store, R: QuorumRule> Panel<S, R> {
     {
         check_cut(cut)?;
         let id = self.member(p)?;
-        let memory = self.table.up(id)?;
+        let panel = &*self;
+        let memory = panel.table.up(id)?;
         if memory.phase == Phase::Done {
             return Err(Refusal::ProcessDone);
         }
-        if self.has_proposed(id) {
+        if panel.has_proposed(id) {
             return Err(Refusal::AlreadyProposed);
         }
         if !is_reading(reading) {
             return Err(Refusal::NotAReading);
         }
-        let turn = propose_turn(&self.rule, id, memory, reading);
-        Ok(self.finish(tray, id, cut, turn))
+        let turn = propose_turn(&panel.rule, id, *memory, reading);
+        Ok(self.finish(tray, id, cut, &turn))
     }
 
     // Brings a process up again, from its own cells.
@@ -208,7 +216,25 @@ impl<S: Store, R: QuorumRule> Panel<S, R> {
             decision: self.cell(id, CellName::Decision),
         };
         let turn = recover_turn(&self.rule, id, cells);
-        Ok(self.finish(tray, id, cut, turn))
+        Ok(self.finish(tray, id, cut, &turn))
+    }
+
+    // Delivers a letter to its addressee, whose memory it is given. A function of its own, since the room for a step is
+    // cleared where the function begins, and a refused call needs none.
+    fn hand_over(
+        &mut self,
+        tray: &mut Tray<Message>,
+        letter: Letter,
+        memory: Memory,
+        cut: Option<u32>,
+    ) -> u32
+        requires { (well_formed (R.QuorumRule.processes self.old.rule) letter.message ≡ true) × (memory_fits 9 letter.message.addressee memory ≡ true) }
+        ensures { outcome_in R.QuorumRule S.Store (Ok result) self.new tray.new ≡ finished letter.message.addressee cut (deliver (R.QuorumRule.processes self.old.rule) letter.message.addressee (R.QuorumRule.quorum self.old.rule) (S.Store.cells self.old.store letter.message.addressee 4) letter.message (still memory)) (state_in R.QuorumRule S.Store self.old tray.old) }
+    {
+        let id = letter.addressee();
+        let decision = self.cell(id, CellName::Decision);
+        let turn = deliver_turn(&self.rule, memory, letter, decision);
+        self.finish(tray, id, cut, &turn)
     }
 
     // Delivers the message at a place, which stays in the tray.
@@ -223,18 +249,11 @@ impl<S: Store, R: QuorumRule> Panel<S, R> {
         check_cut(cut)?;
         let message = tray.at(place).ok_or(Refusal::NoMessage)?;
         let letter = Letter::new(&self.rule, message).ok_or(Refusal::NoMessage)?;
-        let id = letter.addressee();
-        let memory = self.table.up(id)?;
+        let memory = *self.table.up(letter.addressee())?;
         if is_early(&message, &memory) {
             return Err(Refusal::EarlyAck);
         }
-        let turn = deliver_turn(
-            &self.rule,
-            memory,
-            letter,
-            self.cell(id, CellName::Decision),
-        );
-        Ok(self.finish(tray, id, cut, turn))
+        Ok(self.hand_over(tray, letter, memory, cut))
     }
 
     // Looks at a failure detector's list: for each process its epoch, or none where it is not trusted.
@@ -255,8 +274,8 @@ impl<S: Store, R: QuorumRule> Panel<S, R> {
             Phase::Idle => Err(Refusal::ProcessIdle),
             _ if !is_list(self.rule.size(), list) => Err(Refusal::WrongList),
             _ => {
-                let turn = look_turn(&self.rule, id, memory, list)?;
-                Ok(self.finish(tray, id, cut, turn))
+                let turn = look_turn(&self.rule, id, *memory, list)?;
+                Ok(self.finish(tray, id, cut, &turn))
             }
         }
     }

@@ -60,7 +60,8 @@ impl Plan {
     fn new() -> Plan
         ensures { planned result ≡ [] }
     {
-        let unused = Action::Send(Message::default());
+        // An action that is zeros in memory: clearing the places is then one call.
+        let unused = Action::Write(CellName::Proposal, Content::default());
         Plan {
             actions: [unused; 32],
             len: 0,
@@ -110,8 +111,11 @@ fn repeat_last(last: &[Option<Message>; 9]) -> Plan
     ensures nine { length last.now ≡ 9 }
 {
     let mut plan = Plan::new();
-    for message in last.iter().flatten() {
-        plan.push(Action::Send(*message));
+    // Slot by slot: over `flatten`, the loop is not unrolled, and a call that is refused pays for the plan too.
+    for slot in last {
+        if let Some(message) = slot {
+            plan.push(Action::Send(*message));
+        }
     }
     plan
 }
@@ -441,8 +445,10 @@ impl Turn {
 }
 
 // In every promise `lawful` messages are between processes 1 to `among`, which is any number from the rule's on.
+// A step is a kilobyte and a half: three of them are always inlined, since each copy of it costs as much as the step.
 
 // Propose: writes the proposal, and enters round 1.
+#[inline(always)]
 pub fn propose_turn<R: QuorumRule>(rule: &R, p: ProcessId, memory: Memory, reading: u32) -> Turn
     ensures value { step result ≡ propose (R.QuorumRule.processes rule.now) p.number (R.QuorumRule.quorum rule.now) reading (still memory) }
     ensures lawful { (among : ℕ) → R.QuorumRule.processes rule.now ≤ among → p.number ≤ R.QuorumRule.processes rule.now → Lawful ((memory_fits among p.number memory ≡ true) × (is_reading reading ≡ true)) among p.number 28 (step result) }
@@ -456,6 +462,7 @@ pub fn propose_turn<R: QuorumRule>(rule: &R, p: ProcessId, memory: Memory, readi
 }
 
 // Recover: goes on from what the process's own cells hold.
+#[inline(always)]
 pub fn recover_turn<R: QuorumRule>(rule: &R, p: ProcessId, cells: OwnCells) -> Turn
     ensures value { step result ≡ recover (R.QuorumRule.processes rule.now) p.number (R.QuorumRule.quorum rule.now) cells }
     ensures lawful { (among : ℕ) → R.QuorumRule.processes rule.now ≤ among → p.number ≤ R.QuorumRule.processes rule.now → Lawful ((sound 1 cells.proposal ≡ true) × (sound 2 cells.round ≡ true) × (sound 3 cells.pair ≡ true)) among p.number 27 (step result) }
@@ -501,6 +508,7 @@ pub fn look_turn<R: QuorumRule>(
 }
 
 // Deliver: what a message does to its addressee, whose decision cell holds `decision`.
+#[inline(always)]
 pub fn deliver_turn<R: QuorumRule>(
     rule: &R,
     memory: Memory,
