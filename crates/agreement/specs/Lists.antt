@@ -6,10 +6,10 @@ use Rattle.agreement.specs.declared.call.Call.TheVariants.{Propose, Recover, Loo
 
 -- a call as a panel makes it: its list stands behind a reference
 abbrev pub PanelCall : Type 0
-PanelCall = Call (Bor (List (Option ℕ)))
+PanelCall = Call (Bor (List (Option ℕ))) ℕ
 
 -- a call with another list
-abbrev pub with_list : {L M : Type 0} → (L → M) → Call L → Call M
+abbrev pub with_list : {L M P : Type 0} → (L → M) → Call L P → Call M P
 with_list f (Propose p v cut) = Propose p v cut
 with_list f (Recover p cut) = Recover p cut
 with_list f (Look p list cut) = Look p (f list) cut

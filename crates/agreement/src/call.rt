@@ -7,15 +7,16 @@ ghost use Rattle.agreement.specs.Lists.{with_list};
 use process::turn::NoRound;
 use std::convert::AsSlice;
 
-// A call with its process or place, and with its cut where it takes one; a look's list is of type L.
+// A call with its process or place, and with its cut where it takes one; a look's list is of type L, and a place of
+// type P, so that a call of a script holds no place that no line can say.
 #[derive(Clone, Copy, PartialEq, Eq, Debug)]
-pub enum Call<L> {
+pub enum Call<L, P = usize> {
     Propose(u32, u32, Option<u32>),
     Recover(u32, Option<u32>),
     Look(u32, L, Option<u32>),
-    Deliver(usize, Option<u32>),
+    Deliver(P, Option<u32>),
     Again(u32, Option<u32>),
-    Lose(usize),
+    Lose(P),
     Crash(u32),
 }
 
@@ -35,6 +36,23 @@ impl<L: AsSlice<Option<u32>>> Call<L> {
             Call::Again(p, cut) => Call::Again(*p, *cut),
             Call::Lose(place) => Call::Lose(*place),
             Call::Crash(p) => Call::Crash(*p),
+        }
+    }
+}
+
+impl<L> Call<L, u32> {
+    // The same call, with its place as a panel counts it.
+    pub fn widened(self) -> Call<L>
+        ensures { result ≡ self }
+    {
+        match self {
+            Call::Propose(p, reading, cut) => Call::Propose(p, reading, cut),
+            Call::Recover(p, cut) => Call::Recover(p, cut),
+            Call::Look(p, list, cut) => Call::Look(p, list, cut),
+            Call::Deliver(place, cut) => Call::Deliver(place as usize, cut),
+            Call::Again(p, cut) => Call::Again(p, cut),
+            Call::Lose(place) => Call::Lose(place as usize),
+            Call::Crash(p) => Call::Crash(p),
         }
     }
 }

@@ -2,13 +2,11 @@
 use Rattle.std.proofs.Common.{◌≡◌, ℕ, ◌^◌, ◌<◌, true, false, eqb, List, [], ◌∷◌, ◌++◌, map, length, Some, None, codes, decimal, Option, refl, ap, ◌∙◌, append-nil, arith, rules}
 use Rattle.script.proofs.Figures.{number_is}
 use Rattle.script.proofs.Splits.{filled_first}
-use Rattle.agreement.specs.declared.call.Call.{Call}
 use Rattle.agreement.specs.declared.call.Call.TheVariants.{Again, Crash, Deliver, Look, Lose, Propose, Recover}
-use Rattle.script.specs.Calls.{cut, cut_number, epoch, lone_number, named_call}
+use Rattle.script.specs.Calls.{LineCall, cut, cut_number, epoch, lone_number, named_call}
 use Rattle.script.specs.Commands.{command}
 use Rattle.script.specs.Laws.{AllSmall, ReadAs, ReadBack, Small, cut_words, epoch_word, spaced}
 use Rattle.script.specs.Rows.{beyond, entries, row_of}
-use Rattle.script.specs.declared.row.Row.{Row}
 use Rattle.script.specs.Words.{filled, number, onto, pieces, read_on, words}
 use Rattle.std.proofs.lemmas.Fmt.{decimal_nonempty, digits_decimal, digits_value-decimal}
 use Rattle.std.proofs.lemmas.Str.Parse.{IsNumeralModel, numerals_by_fold, tells_all_ascii_digits}
@@ -116,16 +114,16 @@ beyond_back (x ∷ xs) k all = rw (epoch_back x all.0) (beyond_back xs k all.1)
 
 -- and so does every call: one of a number and a cut, and one of a number alone
 module _ (name : List ℕ) (word : Word name) where
-  line_back : (ws : List (List ℕ)) (call : Call (Row (Option ℕ))) → AllWords ws → named_call name ws ≡ Some call → ReadAs name ws call
+  line_back : (ws : List (List ℕ)) (call : LineCall) → AllWords ws → named_call name ws ≡ Some call → ReadAs name ws call
   line_back ws call all e = ap command (words_spaced name ws word all) ∙ rw e refl
 
-  cut_call_back : (call : ℕ → Option ℕ → Call (Row (Option ℕ))) → ((ws : List (List ℕ)) → named_call name ws ≡ option_map (λ v. call v.0 v.1) (cut_number ws)) →
+  cut_call_back : (call : ℕ → Option ℕ → LineCall) → ((ws : List (List ℕ)) → named_call name ws ≡ option_map (λ v. call v.0 v.1) (cut_number ws)) →
       (p : ℕ) (k : Option ℕ) → p < 2 ^ 32 → Small k → ReadAs name (decimal p ∷ cut_words k) (call p k)
   cut_call_back call e p k h s =
       line_back (decimal p ∷ cut_words k) (call p k) (number_word p h, cut_all_words k s)
       (e (decimal p ∷ cut_words k) ∙ ap (option_map (λ v. call v.0 v.1)) (cut_number_back p k h s))
 
-  lone_call_back : (call : ℕ → Call (Row (Option ℕ))) → ((ws : List (List ℕ)) → named_call name ws ≡ option_map call (lone_number ws)) →
+  lone_call_back : (call : ℕ → LineCall) → ((ws : List (List ℕ)) → named_call name ws ≡ option_map call (lone_number ws)) →
       (p : ℕ) → p < 2 ^ 32 → ReadAs name (decimal p ∷ []) (call p)
   lone_call_back call e p h =
       line_back (decimal p ∷ []) (call p) (number_word p h, tt) (e (decimal p ∷ []) ∙ ap (option_map call) (lone_back p h))

@@ -9,6 +9,10 @@ use Rattle.std.specs.Bool.{then_some}
 use Rattle.std.specs.Option.{option_and_then, option_map}
 use Rattle.std.specs.Str.{bytes_eq}
 
+-- a call of a script: its list is a row
+abbrev pub LineCall : Type 0
+LineCall = Call (Row (Option ℕ)) ℕ
+
 -- an epoch, or - for a process that is not trusted
 abbrev pub epoch : List ℕ → Option (Option ℕ)
 epoch w = cond (bytes_eq w (codes "-")) (Some None) (option_map Some (number w))
@@ -45,15 +49,15 @@ abbrev pub cut_number : List (List ℕ) → Option (ℕ × Option ℕ)
 cut_number ws = numbered ws (λ n rest. option_map (λ k. (n, k)) (cut rest))
 
 -- a process and a reading
-abbrev pub proposal : List (List ℕ) → Option (Call (Row (Option ℕ)))
+abbrev pub proposal : List (List ℕ) → Option LineCall
 proposal ws = numbered ws (λ p rest. option_map (λ v. Propose p v.0 v.1) (cut_number rest))
 
 -- a process and a list
-abbrev pub view : List (List ℕ) → Option (Call (Row (Option ℕ)))
+abbrev pub view : List (List ℕ) → Option LineCall
 view ws = numbered ws (λ p rest. option_map (Look p (row_of None (entries epoch rest))) (cut (beyond epoch rest)))
 
 -- the call that a name and the words after it are
-abbrev pub named_call : List ℕ → List (List ℕ) → Option (Call (Row (Option ℕ)))
+abbrev pub named_call : List ℕ → List (List ℕ) → Option LineCall
 named_call w ws =
     cond (bytes_eq w (codes "recover")) (option_map (λ v. Recover v.0 v.1) (cut_number ws))
     (cond (bytes_eq w (codes "propose")) (proposal ws)

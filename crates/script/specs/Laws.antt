@@ -1,10 +1,9 @@
 -- Every call can be written down: the words of its line read back as that call.
 use Rattle.std.specs.Prelude.{◌≡◌, ℕ, ◌^◌, ◌<◌, List, [], ◌∷◌, ◌++◌, map, Some, None, codes, decimal, Option}
-use Rattle.agreement.specs.declared.call.Call.{Call}
 use Rattle.agreement.specs.declared.call.Call.TheVariants.{Recover, Propose, Look, Deliver, Again, Lose, Crash}
 use Rattle.script.specs.declared.commands.Command.TheVariants.{Make}
+use Rattle.script.specs.Calls.{LineCall}
 use Rattle.script.specs.Commands.{command}
-use Rattle.script.specs.declared.row.Row.{Row}
 use Rattle.script.specs.Rows.{row_of}
 use Rattle.script.specs.Words.{words}
 
@@ -34,7 +33,7 @@ AllSmall [] = Unit {0}
 AllSmall (x ∷ xs) = Small x × AllSmall xs
 
 -- a line of a name and further words is read as this call
-abbrev pub ReadAs : List ℕ → List (List ℕ) → Call (Row (Option ℕ)) → Type 0
+abbrev pub ReadAs : List ℕ → List (List ℕ) → LineCall → Type 0
 ReadAs name ws call = command (words (name ++ spaced ws)) ≡ Some (Make call)
 
 -- whatever the numbers, the list and the cut are

@@ -6,7 +6,10 @@ ghost use Rattle.std.specs.Option.{option_map};
 
 use super::row::{Row, read_row};
 use super::words::{next_word, read_number};
-use agreement::call::Call;
+use agreement::call;
+
+// A call of a script, with a row for its list.
+pub type Call = call::Call<Row<Option<u32>>, u32>;
 
 // The number that a line begins with, and what follows it.
 fn first_number(line: &[u8]) -> Option<(u32, &[u8])>
@@ -53,7 +56,7 @@ fn read_cut_number(line: &[u8]) -> Option<(u32, Option<u32>)>
 }
 
 // A proposal.
-fn read_proposal(line: &[u8]) -> Option<Call<Row<Option<u32>>>>
+fn read_proposal(line: &[u8]) -> Option<Call>
     ensures { result ≡ proposal (words line.now) }
 {
     let (p, rest) = first_number(line)?;
@@ -62,7 +65,7 @@ fn read_proposal(line: &[u8]) -> Option<Call<Row<Option<u32>>>>
 }
 
 // A look at a list.
-fn read_look(line: &[u8]) -> Option<Call<Row<Option<u32>>>>
+fn read_look(line: &[u8]) -> Option<Call>
     ensures { result ≡ view (words line.now) }
 {
     let (p, rest) = first_number(line)?;
@@ -71,7 +74,7 @@ fn read_look(line: &[u8]) -> Option<Call<Row<Option<u32>>>>
 }
 
 // The call that a name and what follows it are.
-pub(crate) fn read_call(name: &str, line: &[u8]) -> Option<Call<Row<Option<u32>>>>
+pub(crate) fn read_call(name: &str, line: &[u8]) -> Option<Call>
     ensures { result ≡ named_call name.now (words line.now) }
 {
     match name {
@@ -83,13 +86,13 @@ pub(crate) fn read_call(name: &str, line: &[u8]) -> Option<Call<Row<Option<u32>>
         "look" => read_look(line),
         "deliver" => {
             let (place, cut) = read_cut_number(line)?;
-            Some(Call::Deliver(place as usize, cut))
+            Some(Call::Deliver(place, cut))
         }
         "again" => {
             let (p, cut) = read_cut_number(line)?;
             Some(Call::Again(p, cut))
         }
-        "lose" => Some(Call::Lose(read_lone(line)? as usize)),
+        "lose" => Some(Call::Lose(read_lone(line)?)),
         "crash" => Some(Call::Crash(read_lone(line)?)),
         _ => None,
     }

@@ -4,16 +4,14 @@ ghost use Rattle.script.specs.Commands.{command, lone_word, named_view, with_pat
 ghost use Rattle.script.specs.Words.{words};
 ghost use Rattle.std.specs.Option.{option_map};
 
-use super::calls::{is_end, read_call, read_lone};
-use super::row::Row;
+use super::calls::{Call, is_end, read_call, read_lone};
 use super::words::next_word;
-use agreement::call::Call;
 use std::str::from_utf8;
 
 // A call to make, or something to show, to save or to check; a path is of type P.
 #[derive(Clone, Copy, PartialEq, Eq, Debug)]
 pub enum Command<P> {
-    Make(Call<Row<Option<u32>>>),
+    Make(Call),
     Cells,
     Tray,
     Process(u32),

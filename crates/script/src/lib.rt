@@ -53,7 +53,7 @@ mod tests {
             let Some(Command::Make(call)) = command else {
                 panic!(rt; "{line} asks for no call");
             };
-            assert_eq!(rt; (line, call.lent()), (line, told));
+            assert_eq!(rt; (line, call.widened().lent()), (line, told));
         }
         for line in [
             "recover 1 cut",

@@ -4,13 +4,13 @@ use Rattle.agreement.specs.declared.call.Call.{Call}
 use Rattle.agreement.specs.declared.call.Call.TheVariants.{Propose, Recover, Look, Deliver, Again, Lose, Crash}
 use Rattle.agreement.specs.Calls.{Outcome, State, done, again_of, crash_of, deliver_of, look_of, lose_of, propose_of, recover_of, verdict}
 use Rattle.agreement.specs.Lists.{PanelCall, with_list}
-use Rattle.script.specs.declared.row.Row.{Row}
+use Rattle.script.specs.Calls.{LineCall}
 use Rattle.script.specs.Rows.{listed}
 use Rattle.sitting.specs.Calls.{judged}
 
 module _ (s : State) where
   -- what a call with a plain list comes to
-  outcome : Call (List (Option ℕ)) → Outcome
+  outcome : Call (List (Option ℕ)) ℕ → Outcome
   outcome (Propose p v cut) = done (propose_of p v cut) s
   outcome (Recover p cut) = done (recover_of p cut) s
   outcome (Look p list cut) = done (look_of p list cut) s
@@ -29,7 +29,7 @@ module _ (s : State) where
   of_lent (Lose i) = refl
   of_lent (Crash p) = refl
 
-  of_read : (a : Call (Row (Option ℕ))) → done (judged a) s ≡ outcome (with_list listed a)
+  of_read : (a : LineCall) → done (judged a) s ≡ outcome (with_list listed a)
   unfolding outcome
   of_read (Propose p v cut) = refl
   of_read (Recover p cut) = refl
@@ -39,5 +39,5 @@ module _ (s : State) where
   of_read (Lose i) = refl
   of_read (Crash p) = refl
 
-  pub judged_as : (a : Call (Row (Option ℕ))) (d : PanelCall) → with_list (λ x. x.now) d ≡ with_list listed a → done (verdict d) s ≡ done (judged a) s
+  pub judged_as : (a : LineCall) (d : PanelCall) → with_list (λ x. x.now) d ≡ with_list listed a → done (verdict d) s ≡ done (judged a) s
   judged_as a d same = of_lent d ∙ (ap outcome same ∙ sym (of_read a))

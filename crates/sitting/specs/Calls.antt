@@ -1,13 +1,11 @@
 -- What a call of a script is judged to be.
-use Rattle.std.specs.Prelude.{ℕ, Option}
 use Rattle.agreement.specs.Calls.{State, Verdict, again_of, crash_of, deliver_of, look_of, lose_of, propose_of, recover_of}
-use Rattle.agreement.specs.declared.call.Call.{Call}
 use Rattle.agreement.specs.declared.call.Call.TheVariants.{Recover, Propose, Look, Deliver, Again, Lose, Crash}
-use Rattle.script.specs.declared.row.Row.{Row}
+use Rattle.script.specs.Calls.{LineCall}
 use Rattle.script.specs.Rows.{listed}
 
 -- the verdict of a panel on it
-abbrev pub judged : Call (Row (Option ℕ)) → State → Verdict
+abbrev pub judged : LineCall → State → Verdict
 judged (Recover p cut) = recover_of p cut
 judged (Propose p reading cut) = propose_of p reading cut
 judged (Look p row cut) = look_of p (listed row) cut

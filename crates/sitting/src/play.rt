@@ -10,7 +10,7 @@ use super::files::{read_file, write_file};
 use super::reader::Script;
 use super::setup::unread;
 use super::views::{show_cells, show_tray};
-use agreement::call::{Call, Refusal, told};
+use agreement::call::{Refusal, told};
 use listing::lines::{Answer, Note};
 use listing::record::ProcessLine;
 use listing::stored::store_text;
@@ -18,8 +18,8 @@ use panel::panel::Panel;
 use printed::inspect;
 use process::message::Message;
 use quorum::QuorumRule;
+use script::calls::Call;
 use script::commands::{Command, read_command};
-use script::row::Row;
 use std::io;
 use std::io::Write;
 use store::Store;
@@ -29,11 +29,11 @@ use tray::Tray;
 fn make<S: Store, R: QuorumRule>(
     panel: &mut Panel<S, R>,
     tray: &mut Tray<Message>,
-    call: &Call<Row<Option<u32>>>,
+    call: &Call,
 ) -> Result<u32, Refusal>
     ensures { outcome_in R.QuorumRule S.Store result panel.new tray.new ≡ done (judged call.now) (state_in R.QuorumRule S.Store panel.old tray.old) }
 {
-    panel.call(tray, &call.lent())
+    panel.call(tray, &call.widened().lent())
 }
 
 // Does what a line asks for; false where it is not understood.
