@@ -1,5 +1,4 @@
 mod Entries
 mod Figures
-mod Names
 mod ReadBack
 mod Splits

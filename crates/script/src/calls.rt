@@ -5,7 +5,7 @@ ghost use Rattle.script.specs.Words.{words};
 ghost use Rattle.std.specs.Option.{option_map};
 
 use super::row::{Row, read_row};
-use super::words::{next_word, read_number};
+use super::words::{is_word, next_word, read_number};
 use agreement::call;
 
 // A call of a script, with a row for its list.
@@ -73,27 +73,27 @@ fn read_look(line: &[u8]) -> Option<Call>
     Some(Call::Look(p, list, read_cut(end)?))
 }
 
-// The call that a name and what follows it are.
-pub(crate) fn read_call(name: &str, line: &[u8]) -> Option<Call>
+// The call that a name and what follows it are. By `is_word`, since a proof sees a pattern of bytes byte by byte.
+pub(crate) fn read_call(name: &[u8], line: &[u8]) -> Option<Call>
     ensures { result ≡ named_call name.now (words line.now) }
 {
     match name {
-        "recover" => {
+        _ if is_word(name, "recover") => {
             let (p, cut) = read_cut_number(line)?;
             Some(Call::Recover(p, cut))
         }
-        "propose" => read_proposal(line),
-        "look" => read_look(line),
-        "deliver" => {
+        _ if is_word(name, "propose") => read_proposal(line),
+        _ if is_word(name, "look") => read_look(line),
+        _ if is_word(name, "deliver") => {
             let (place, cut) = read_cut_number(line)?;
             Some(Call::Deliver(place, cut))
         }
-        "again" => {
+        _ if is_word(name, "again") => {
             let (p, cut) = read_cut_number(line)?;
             Some(Call::Again(p, cut))
         }
-        "lose" => Some(Call::Lose(read_lone(line)?)),
-        "crash" => Some(Call::Crash(read_lone(line)?)),
+        _ if is_word(name, "lose") => Some(Call::Lose(read_lone(line)?)),
+        _ if is_word(name, "crash") => Some(Call::Crash(read_lone(line)?)),
         _ => None,
     }
 }

@@ -5,8 +5,7 @@ ghost use Rattle.script.specs.Words.{words};
 ghost use Rattle.std.specs.Option.{option_map};
 
 use super::calls::{Call, is_end, read_call, read_lone};
-use super::words::next_word;
-use std::str::from_utf8;
+use super::words::{is_word, next_word};
 
 // A call to make, or something to show, to save or to check; a path is of type P.
 #[derive(Clone, Copy, PartialEq, Eq, Debug)]
@@ -29,16 +28,16 @@ fn read_word(line: &[u8]) -> Option<&[u8]>
 }
 
 // What is to be shown, saved or checked, by a name and what follows it.
-fn read_view<'a>(name: &str, line: &'a [u8]) -> Option<Command<&'a [u8]>>
+fn read_view<'a>(name: &[u8], line: &'a [u8]) -> Option<Command<&'a [u8]>>
     ensures { option_map (with_path (λ x. x.now)) result ≡ named_view name.now (words line.now) }
 {
     match name {
-        "cells" => is_end(line).then_some(Command::Cells),
-        "tray" => is_end(line).then_some(Command::Tray),
-        "process" => Some(Command::Process(read_lone(line)?)),
-        "store" => is_end(line).then_some(Command::Store),
-        "save" => Some(Command::Save(read_word(line)?)),
-        "check" => Some(Command::Check(read_word(line)?)),
+        _ if is_word(name, "cells") => is_end(line).then_some(Command::Cells),
+        _ if is_word(name, "tray") => is_end(line).then_some(Command::Tray),
+        _ if is_word(name, "process") => Some(Command::Process(read_lone(line)?)),
+        _ if is_word(name, "store") => is_end(line).then_some(Command::Store),
+        _ if is_word(name, "save") => Some(Command::Save(read_word(line)?)),
+        _ if is_word(name, "check") => Some(Command::Check(read_word(line)?)),
         _ => None,
     }
 }
@@ -48,7 +47,6 @@ pub fn read_command(line: &[u8]) -> Option<Command<&[u8]>>
     ensures { option_map (with_path (λ x. x.now)) result ≡ command (words line.now) }
 {
     let (name, rest) = next_word(line)?;
-    let name = from_utf8(name).ok()?;
     read_call(name, rest)
         .map(|call| Command::Make(call))
         .or_else(|| read_view(name, rest))

@@ -3,6 +3,7 @@ ghost use Rattle.std.specs.Prelude.{◌≡◌, ◌+◌, ◌-◌, ◌*◌, ◌^�
 ghost use Rattle.script.specs.Words.{alike, feedless, number, passed_over, words};
 ghost use Rattle.std.specs.Char.{is_ascii_digit};
 ghost use Rattle.std.specs.List.{prefix_len};
+ghost use Rattle.std.specs.Str.{bytes_eq};
 
 // A line without the line feed at its end.
 pub fn without_feed(line: &[u8]) -> &[u8]
@@ -38,12 +39,20 @@ pub(crate) fn next_word(line: &[u8]) -> Option<(&[u8], &[u8])>
     Some(line.split_at(count_run(false, line)))
 }
 
-// The number with the figures of `n` and then the one that `b` shows.
+// Whether a word is this one.
+pub(crate) fn is_word(word: &[u8], name: &str) -> bool
+    ensures { result ≡ bytes_eq word.now name.now }
+{
+    word == name.as_bytes()
+}
+
+// The number with the figures of `n` and then the one that `b` shows. By u64, since two checked steps cost half as
+// much again here.
 fn append(n: u32, b: u8) -> Option<u32>
     ensures { result ≡ (if is_ascii_digit b && nat_lt (n * 10 + (b - 48)) (2 ^ 32) then Some (n * 10 + (b - 48)) else None) }
 {
     let figure = char::from(b).to_digit(10)?;
-    n.checked_mul(10)?.checked_add(figure)
+    u32::try_from(u64::from(n) * 10 + u64::from(figure)).ok()
 }
 
 // The number that a word is: decimal figures, up to 4,294,967,295.
