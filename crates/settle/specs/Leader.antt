@@ -1,5 +1,5 @@
 -- A coordinator through its first round.
-use Rattle.std.specs.Prelude.{ℕ, List, [], ◌∷◌, None, codes}
+use Rattle.std.specs.Prelude.{ℕ, cond, List, [], ◌∷◌, None, codes, ◌==◌}
 use Rattle.process.specs.declared.message.Kind.{Kind}
 use Rattle.process.specs.declared.message.Kind.TheVariants.{Estimate as AnEstimate, Ack as AnAck}
 use Rattle.process.specs.declared.message.Message.{Message}
@@ -30,6 +30,10 @@ gathered own other = deliver 3 2 (majority 3) None (told AnEstimate other) (stil
 abbrev pub led : ℕ → ℕ → List Step
 led own other =
     proposed own ∷ gathered own other ∷ deliver 3 2 (majority 3) None (told AnAck 0) (still (gathered own other).memory) ∷ []
+
+-- the part at a place of the round, counted from 0
+abbrev pub part_at : ℕ → Part
+part_at i = cond (i == 0) Proposal (cond (i == 1) Estimate Ack)
 
 -- what happens in a part of the round
 abbrev pub said : Part → List ℕ

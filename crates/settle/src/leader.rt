@@ -2,7 +2,7 @@
 ghost use Rattle.std.specs.Prelude.{◌≡◌, map, if◌then◌else◌, Some, None};
 ghost use Rattle.process.specs.Messages.{is_reading};
 ghost use Rattle.process.specs.Turns.{step};
-ghost use Rattle.settle.specs.Leader.{led, said, told};
+ghost use Rattle.settle.specs.Leader.{led, part_at, said, told};
 ghost use Rattle.std.specs.Option.{option_map};
 
 use process::identity::{Letter, ProcessId};
@@ -51,8 +51,17 @@ pub enum Part {
     Ack,
 }
 
-// The parts in order, beside the turns and not in them: what a turn is has a promise of its own.
-pub const PARTS: [Part; 3] = [Part::Proposal, Part::Estimate, Part::Ack];
+// The part at a place of the round, counted from 0; the parts are not in the turns, since what a turn is has a promise
+// of its own.
+pub fn part_at(i: usize) -> Part
+    ensures { result ≡ part_at i }
+{
+    match i {
+        0 => Part::Proposal,
+        1 => Part::Estimate,
+        _ => Part::Ack,
+    }
+}
 
 // What happens in a part.
 impl fmt::Display for Part {

@@ -5,7 +5,7 @@ mod houses;
 mod leader;
 
 use houses::{ask_rules, best_offer, estimate_of, proposers, word};
-use leader::{PARTS, lead_round};
+use leader::{lead_round, part_at};
 use printed::inspect;
 use printed::printed_store::PrintedStore;
 use printed::printing::blank_text;
@@ -71,7 +71,8 @@ fn main(rt: HostRuntime) -> io::Result<()> {
     let Some(turns) = lead_round(407, 512) else {
         return Ok(());
     };
-    for (part, turn) in PARTS.iter().zip(&turns) {
+    for (i, turn) in turns.iter().enumerate() {
+        let part = part_at(i);
         println!(rt; "process 2 of three {part}:")?;
         for action in turn.plan.actions() {
             match *action {
