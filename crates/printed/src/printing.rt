@@ -5,7 +5,6 @@ ghost use Rattle.printed.specs.Fields.{figure, leading, justified};
 ghost use Rattle.printed.specs.Lines.{line};
 ghost use Rattle.printed.specs.Texts.{Printed, text_cells};
 
-use std::array;
 use store::content::Content;
 
 // The line of a cell that holds nothing.
@@ -64,5 +63,9 @@ pub fn blank_text() -> [u8; 576]
     ensures printed { Printed result }
     ensures absent { text_cells result ≡ absent }
 {
-    array::from_fn(|i| BLANK[i % 16])
+    // Whole lines: byte by byte, by `from_fn`, it costs ten times as much.
+    let lines = [BLANK; 36];
+    let mut text = [b' '; 576];
+    text.copy_from_slice(lines.as_flattened());
+    text
 }
