@@ -21,7 +21,7 @@ length_justified zero n = refl
 length_justified (suc w) n = simp length-append (omega (arith, length_leading w (n / 10)))
 
 -- a number is known from the tenth of it and its figure
-same_figure : (m n : ℕ) → m / 10 ≡ n / 10 → figure m ≡ figure n → m ≡ n
+pub same_figure : (m n : ℕ) → m / 10 ≡ n / 10 → figure m ≡ figure n → m ≡ n
 same_figure m n d f = grind arith
 
 pub tenth_below : (w m : ℕ) → m < 10 ^ suc w → m / 10 < 10 ^ w
