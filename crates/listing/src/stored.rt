@@ -38,7 +38,7 @@ pub fn cell_line<S: Store>(store: &S, k: u32) -> Option<CellLine>
     })
 }
 
-// How many cells hold something. A loop, since a chain of iterators costs half as much again here.
+// How many cells hold something. A loop, since a chain of iterators costs two fifths more here.
 pub fn count_cells<S: Store>(store: &S) -> usize
     ensures { result ≡ told_count (S.Store.cells store.now) 36 }
 {

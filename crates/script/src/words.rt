@@ -46,8 +46,8 @@ pub(crate) fn is_word(word: &[u8], name: &str) -> bool
     word == name.as_bytes()
 }
 
-// The number with the figures of `n` and then the one that `b` shows. By u64, since two checked steps cost half as
-// much again here.
+// The number with the figures of `n` and then the one that `b` shows. By u64, since two checked steps cost two fifths
+// more here.
 fn append(n: u32, b: u8) -> Option<u32>
     ensures { result ≡ (if is_ascii_digit b && nat_lt (n * 10 + (b - 48)) (2 ^ 32) then Some (n * 10 + (b - 48)) else None) }
 {
