@@ -29,3 +29,7 @@ moved_down s n (suc i) low high fits =
     let rest : drop (suc i) (take n s) ≡ take (n - suc i) (drop (suc i) s) =
     ap (λ j. drop (suc i) (take j s)) (sym k) ∙ drop-take (suc i) (n - suc i) s in
     rw (← m, sub-one, rest, take-take) (take-paste s i (drop (suc i) s) (n - suc i) (omega arith) (simp length-drop (omega arith)))
+
+-- the same, wherever the copied part begins and goes to
+pub moved_by : {T : Type 0} (s u : List T) (n p a d : ℕ) → u ≡ copy_within s a n d → 1 ≤ p → p ≤ n → n ≤ length s → a ≡ p → d ≡ p - 1 → take (n - 1) u ≡ without (take n s) p
+moved_by s u n p a d made low high fits start to = rw (made, start, to) (moved_down s n p low high fits)

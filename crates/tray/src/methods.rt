@@ -60,6 +60,7 @@ impl<'a, T: Copy> Tray<'a, T> {
     }
 
     // Takes out the element at a place, counted from 1; later elements move down by one.
+    #[tactic(auto, using(crate::proofs::Places::moved_by, crate::proofs::Places::element_within))]
     pub fn take_out(&mut self, place: usize) -> Option<T>
         ensures value { result ≡ element (items self.old) place }
         ensures list { items self.new ≡ without (items self.old) place }
